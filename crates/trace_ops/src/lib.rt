@@ -1,0 +1,28 @@
+//! The data of recorded and optimised traces, and the words that they compute with.
+#![tactic(auto)]
+
+mod code;
+mod facts;
+mod list;
+mod op_names;
+mod piece;
+mod table;
+mod text;
+mod trace;
+mod word;
+
+pub use code::OpCode;
+pub use facts::{Cites, Part, Takes, Want, cites_of, gives_of, part_of, takes_of};
+pub use list::List;
+pub use op_names::{code_of, name_of};
+pub use piece::{
+    Entry, Fact, Half, OptFrame, OptOp, OptTrace, Pending, Piece, PieceId, Shape, Snapshot, Spot,
+    Val,
+};
+pub use table::{ArrayRow, CallRow, FieldRow, Initial, PrebuiltRow, ShapeOf, SizeRow, Table, What};
+pub use text::Text;
+pub use trace::{Arg, BoxId, Descr, Frame, Kind, Op, Origin, Trace, TraceSet};
+pub use word::{Word, wrap_add, wrap_and, wrap_or, wrap_sub, wrap_xor};
+
+#[cfg(test)]
+mod tests;

@@ -1,5 +1,5 @@
 -- What sources and sinks over bytes in memory do, call by call.
-use Rattle.std.specs.Prelude.{◌≡◌, ℕ, ◌+◌, ◌-◌, ◌^◌, ◌<◌, min, Bool, ◌||◌, List, [], ◌∷◌, ◌++◌, take, drop, length, nat_lt, refl}
+use Rattle.std.specs.Prelude.{ℕ, ◌+◌, ◌-◌, ◌^◌, min, List, ◌++◌, take, drop, refl}
 use Rattle.std.specs.Coded.{Coded, code_by, coded×, coded_ℕ, coded_list}
 
 -- a source: the bytes still to come, the bytes a call at most, the calls that fail, the calls and the faults so far

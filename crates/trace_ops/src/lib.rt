@@ -2,6 +2,7 @@
 #![tactic(auto)]
 
 mod code;
+mod copies;
 mod facts;
 mod list;
 mod op_names;
@@ -12,6 +13,7 @@ mod trace;
 mod word;
 
 pub use code::OpCode;
+pub use copies::CopyIn;
 pub use facts::{Cites, Part, Takes, Want, cites_of, gives_of, part_of, takes_of};
 pub use list::List;
 pub use op_names::{code_of, name_of};

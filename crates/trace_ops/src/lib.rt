@@ -7,10 +7,13 @@ mod facts;
 mod folds;
 mod list;
 mod op_names;
+
 mod piece;
+mod snapshot_boxes;
 mod table;
 mod text;
 mod trace;
+mod weights;
 mod word;
 
 pub use code::OpCode;
@@ -19,6 +22,7 @@ pub use facts::{Cites, Part, Takes, Want, cites_of, gives_of, part_of, takes_of}
 pub use folds::fold;
 pub use list::List;
 pub use op_names::{code_of, name_of};
+pub use snapshot_boxes::parts;
 pub use piece::{
     Entry, Fact, Half, OptFrame, OptOp, OptTrace, Pending, Piece, PieceId, Shape, Snapshot, Spot,
     Val,
@@ -26,6 +30,7 @@ pub use piece::{
 pub use table::{ArrayRow, CallRow, FieldRow, Initial, PrebuiltRow, ShapeOf, SizeRow, Table, What};
 pub use text::Text;
 pub use trace::{Arg, BoxId, Descr, Frame, Kind, Op, Origin, Trace, TraceSet};
+pub use weights::weight;
 pub use word::{
     Word, add_overflows, force_ge_zero, invert, is_true, is_zero, mul_overflows, same_as,
     sub_overflows, unsigned_ge, unsigned_gt, unsigned_le, unsigned_lt, word_eq, word_ge, word_gt,

@@ -6,3 +6,6 @@ pub mod Parts
 pub mod Weights
 pub mod Kinds
 pub mod InRange
+pub mod Classes
+pub mod Fits
+pub mod Lawful

@@ -1,13 +1,13 @@
 //! The data of recorded and optimised traces, and the words that they compute with.
 #![tactic(auto)]
 
+mod classes;
 mod code;
 mod copies;
 mod facts;
 mod folds;
 mod list;
 mod op_names;
-
 mod piece;
 mod snapshot_boxes;
 mod table;
@@ -16,17 +16,20 @@ mod trace;
 mod weights;
 mod word;
 
+pub use classes::{
+    is_allocation, is_call, is_guard, is_overflowing, is_plain, is_pure, reads_overflow,
+};
 pub use code::OpCode;
 pub use copies::CopyIn;
 pub use facts::{Cites, Part, Takes, Want, cites_of, gives_of, part_of, takes_of};
 pub use folds::fold;
 pub use list::List;
 pub use op_names::{code_of, name_of};
-pub use snapshot_boxes::parts;
 pub use piece::{
     Entry, Fact, Half, OptFrame, OptOp, OptTrace, Pending, Piece, PieceId, Shape, Snapshot, Spot,
     Val,
 };
+pub use snapshot_boxes::parts;
 pub use table::{ArrayRow, CallRow, FieldRow, Initial, PrebuiltRow, ShapeOf, SizeRow, Table, What};
 pub use text::Text;
 pub use trace::{Arg, BoxId, Descr, Frame, Kind, Op, Origin, Trace, TraceSet};

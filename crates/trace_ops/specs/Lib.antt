@@ -9,3 +9,6 @@ pub mod InRange
 pub mod Classes
 pub mod Fits
 pub mod Lawful
+pub mod Pieces
+pub mod Snapshots
+pub mod Sound

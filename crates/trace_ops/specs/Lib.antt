@@ -2,3 +2,13 @@ pub mod Words
 pub mod Facts
 pub mod OpNames
 pub mod Folds
+pub mod Parts
+pub mod Weights
+pub mod Kinds
+pub mod InRange
+pub mod Classes
+pub mod Fits
+pub mod Lawful
+pub mod Pieces
+pub mod Snapshots
+pub mod Sound

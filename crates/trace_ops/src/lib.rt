@@ -1,6 +1,7 @@
 //! The data of recorded and optimised traces, and the words that they compute with.
 #![tactic(auto)]
 
+mod classes;
 mod code;
 mod copies;
 mod facts;
@@ -8,11 +9,16 @@ mod folds;
 mod list;
 mod op_names;
 mod piece;
+mod snapshot_boxes;
 mod table;
 mod text;
 mod trace;
+mod weights;
 mod word;
 
+pub use classes::{
+    is_allocation, is_call, is_guard, is_overflowing, is_plain, is_pure, reads_overflow,
+};
 pub use code::OpCode;
 pub use copies::CopyIn;
 pub use facts::{Cites, Part, Takes, Want, cites_of, gives_of, part_of, takes_of};
@@ -23,9 +29,11 @@ pub use piece::{
     Entry, Fact, Half, OptFrame, OptOp, OptTrace, Pending, Piece, PieceId, Shape, Snapshot, Spot,
     Val,
 };
+pub use snapshot_boxes::parts;
 pub use table::{ArrayRow, CallRow, FieldRow, Initial, PrebuiltRow, ShapeOf, SizeRow, Table, What};
 pub use text::Text;
 pub use trace::{Arg, BoxId, Descr, Frame, Kind, Op, Origin, Trace, TraceSet};
+pub use weights::weight;
 pub use word::{
     Word, add_overflows, force_ge_zero, invert, is_true, is_zero, mul_overflows, same_as,
     sub_overflows, unsigned_ge, unsigned_gt, unsigned_le, unsigned_lt, word_eq, word_ge, word_gt,

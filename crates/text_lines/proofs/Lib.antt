@@ -1,0 +1,4 @@
+pub mod LineLaws
+pub mod WordLaws
+pub mod Written
+pub mod Digits

@@ -1,0 +1,7 @@
+pub mod Lines
+pub mod Words
+pub mod Reading
+pub mod Numbers
+pub mod Names
+pub mod Written
+pub mod FirstBad

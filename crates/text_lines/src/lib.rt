@@ -1,0 +1,16 @@
+//! The lines and words of a text: names, numbers and boxes, read and written.
+#![tactic(auto)]
+
+mod line;
+mod names;
+mod number;
+mod reading;
+mod word;
+mod writing;
+
+pub use line::next_line;
+pub use names::Names;
+pub use number::{Letter, box_of, decimal_of, integer_of, put_integer};
+pub use reading::{is_skipped, key_at, name_at};
+pub use word::{is_name, is_plain, next_word};
+pub use writing::{put_line, put_word};

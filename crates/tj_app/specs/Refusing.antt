@@ -35,4 +35,4 @@ fault_text fault.Memory = codes "error memory\n"
 
 -- the text was taken and the status is this one, or the sink failed
 abbrev pub Says : Status → List ℕ → Option (List ℕ) → Option (List ℕ) → Status → Type 0
-Says wanted text taken taken' status = (status ≡ status.WriteFault) ⊎ ((status ≡ wanted) × Appends taken taken' text)
+Says wanted text taken taken' ended = (ended ≡ status.WriteFault) ⊎ ((ended ≡ wanted) × Appends taken taken' text)

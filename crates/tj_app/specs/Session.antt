@@ -1,14 +1,12 @@
 -- An activation of a printed image.
-use Rattle.std.specs.Prelude.{◌≡◌, ℕ, zero, suc, ◌+◌, ◌*◌, ◌==◌, if◌then◌else◌, List, Option, Some, None, ℤ, pos, slice_index_or}
+use Rattle.std.specs.Prelude.{◌≡◌, ℕ, zero, suc, ◌+◌, ◌*◌, ◌==◌, if◌then◌else◌, List, [], Option, Some, None, ℤ, pos, slice_index_or}
 use Rattle.std.specs.Int.{w64, cast_unsigned}
-use Rattle.x64_encode.specs.Arena.{Arena}
-use Rattle.x64_machine.specs.declared.state.Counts64.{Counts64}
 use Rattle.x64_machine.specs.declared.state.Stop.{Stop}
 use Rattle.x64_machine.specs.declared.state.Stop.TheVariants.{Returned, HostCall, BadAddress, BadCode, UndefinedFlag}
 use Rattle.x64_machine.specs.declared.state.Turn.{Turn}
 use Rattle.x64_machine.specs.declared.state.Turn.TheVariants.{Went, Stopped}
-use Rattle.x64_machine.specs.Start.{IsStart, zeros}
-use Rattle.x64_machine.specs.State.{State, Acted, acted, reg}
+use Rattle.x64_machine.specs.Start.{IsStart}
+use Rattle.x64_machine.specs.State.{State, Acted, acted, reg, counts_of}
 use Rattle.x64_machine.specs.Step.{MachineStep}
 use Rattle.tj_app.specs.declared.selection.Handed.{Handed}
 use Rattle.tj_app.specs.declared.selection.Handed.TheVariants.{Nothing, Word, Box}
@@ -40,9 +38,6 @@ abbrev pub now_at : Handed → State → Turn → Now
 now_at handed s Went = Going
 now_at handed s (Stopped stop) = stopped handed s stop
 
-abbrev pub counts_of : State → Counts64
-counts_of s = record { instructions = s.instructions; loads = s.loads; stores = s.stores }
-
 -- a machine that stands stays, and another one goes on
 abbrev pub GoesOn : Turn → State → (State → Acted → Type 0) → Acted → Type 0
 GoesOn Went s next done = next s done
@@ -53,12 +48,9 @@ abbrev pub Runs : List ℕ → ℕ → State → Acted → Type 0
 Runs code zero s done = done ≡ acted Went s
 Runs code (suc m) s done = (turn : Turn) × (t : State) × MachineStep code s (acted turn t) × GoesOn turn t (Runs code m) done
 
--- the machine of an activation before its first instruction: it has an arena of a mebibyte, none of it taken
-pub record Starts (inputs : List ℤ) (s : State) : Type 0 where
-  pub arena : Arena
-  pub blank : arena.words ≡ zeros 131072
-  pub free : arena.taken ≡ 0
-  pub first : IsStart arena 0 inputs s
+-- the machine of an activation before its first instruction: an arena of a mebibyte, none of it taken, the entry at 0
+abbrev pub Starts : List ℤ → State → Type 0
+Starts inputs s = IsStart 1048576 [] 0 inputs s
 
 -- what is seen of an activation of the image on these inputs, after at most m instructions
 pub record IsActivation (image : Image) (inputs : List ℤ) (m : ℕ) (seen : Observed) : Type 0 where

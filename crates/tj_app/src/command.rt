@@ -54,9 +54,15 @@ fn is_run(words: &[String]) -> bool
     ensures { IsTrue result ↔ (map string_bytes words.now ≡ codes "run" ∷ []) }
 {
     match words {
-        [word] => word.as_str() == "run",
+        [word] => is_named_run(word),
         _ => false,
     }
+}
+
+fn is_named_run(word: &String) -> bool
+    ensures { IsTrue result ↔ (string_bytes word.now ≡ codes "run") }
+{
+    word.as_str() == "run"
 }
 
 // Writes a text and ends with this status.

@@ -1,14 +1,15 @@
 //! Runs an image on the machine.
-ghost use Rattle.std.specs.Prelude.{◌≡◌, ◌≤◌, ◌<◌, ◌+◌, ◌*◌, ◌^◌, length, IfOk, replicate, pos};
-ghost use Rattle.x64_machine.specs.Start.{zeros};
+ghost use Rattle.std.specs.Prelude.{◌≡◌, ◌≤◌, ◌<◌, ◌+◌, ◌*◌, ◌^◌, length, IfOk};
 ghost use Rattle.x64_machine.specs.State.{acted};
-ghost use Rattle.tj_app.specs.Session.{Starts, Runs, IsActivation, now_at, stopped, value_of};
+ghost use Rattle.tj_app.specs.Session.{Runs, IsActivation, now_at, stopped, value_of};
 
 use crate::selection::{Handed, Image};
 use std::alloc::{AllocError, Global};
 use trace_ops::Word;
-use x64_encode::{ArenaWords, Fetch, PlainCode, Reg};
+use x64_encode::{Fetch, PlainCode, Reg};
 use x64_machine::{Counts64, Machine, Stop, Turn};
+
+const ARENA_BYTES: u64 = 1_048_576;
 
 /// Where an activation stands.
 #[derive(Clone, Copy, Debug, PartialEq, Eq)]
@@ -33,30 +34,12 @@ pub fn run(alloc: Global, image: &Image, inputs: &[Word], budget: u64) -> Result
     ensures { IfOk result (IsActivation image.now inputs.now budget) }
 {
     let code = PlainCode::new(Vec::from_slice(alloc, image.code.items())?);
-    let mut machine = started(alloc, inputs)?;
+    let mut machine = Machine::start(alloc, ARENA_BYTES, &[], 0, inputs)?;
     let turn = run_for(&mut machine, &code, budget);
     Ok(Observed {
         state: now_at(&machine, image.handed, turn),
         counts: machine.counts(),
     })
-}
-
-// The machine before its first instruction.
-fn started(alloc: Global, inputs: &[Word]) -> Result<Machine, AllocError>
-    requires { length inputs.now ≤ 64 }
-    ensures first { IfOk result (Starts inputs.now) }
-    ensures none { IfOk result (λ m. m.instructions ≡ 0) }
-{
-    let words = zero_words(alloc, 131_072)?;
-    Machine::start(alloc, ArenaWords::new(words, 0), 0, inputs)
-}
-
-#[tactic(auto, unfolding(x64_machine::specs::Start::zeros))]
-fn zero_words(alloc: Global, n: usize) -> Result<Vec<Word>, AllocError>
-    ensures words { IfOk result (λ v. v.items ≡ zeros n) }
-    ensures len { IfOk result (λ v. length v.items ≡ n) }
-{
-    vec![in alloc; 0i64; n]
 }
 
 // Makes at most so many instructions.

@@ -27,7 +27,12 @@ pub struct Observed {
 }
 
 /// Runs the image on these inputs, for at most `budget` instructions.
-pub fn run(alloc: Global, image: &Image, inputs: &[Word], budget: u64) -> Result<Observed, AllocError>
+pub fn run(
+    alloc: Global,
+    image: &Image,
+    inputs: &[Word],
+    budget: u64,
+) -> Result<Observed, AllocError>
     requires few { length inputs.now ≤ 64 }
     requires small { length image.now.code < 2 ^ 30 }
     requires bound { budget < 2 ^ 62 }

@@ -65,11 +65,17 @@ fn operations_at_the_edges_give_their_words(rt: HostRuntime) -> Result<(), Fail>
         let mut wanted = words.split_whitespace();
         for a in EDGES {
             for b in EDGES {
-                let input = format!(in rt.alloc(); "%loop L\n[i0, i1]\ni2 = {op}(i0, {b})\nfinish(i2)\n%session\nstart A L ({a}, 7)\nrun A 10\n")?;
+                let input = format!(in rt.alloc();
+                    "%loop L\n[i0, i1]\ni2 = {op}(i0, {b})\nfinish(i2)\n%session\nstart A L ({a}, 7)\nrun A 10\n"
+                )?;
                 let (status, text) = served(&rt, &["run"], input.as_str())?;
                 let want = format!(in rt.alloc(); "A finished {}", wanted.next().ok_or("a word")?)?;
                 assert_eq!(rt; status, Status::Done);
-                assert_eq!(rt; state_line(text.as_str()).ok_or("a state")?, want.as_str(), "{op} of {a} and {b}");
+                assert_eq!(rt;
+                    state_line(text.as_str()).ok_or("a state")?,
+                    want.as_str(),
+                    "{op} of {a} and {b}"
+                );
             }
         }
     }
@@ -82,15 +88,39 @@ fn a_line_that_is_not_the_next_is_named(rt: HostRuntime) -> Result<(), Fail> {
         ("", "error line 1: not built\n"),
         ("# only a comment\n\n", "error line 3: not built\n"),
         ("%loop L\n[i0, i0]\n", "error line 2: not built\n"),
-        ("%loop L\n[i0, i1]\ni0 = int_add(i0, i1)\nfinish(i2)\n", "error line 3: not built\n"),
-        ("%loop L\n[i0]\ni1 = int_add(i0, i2)\n", "error line 3: not built\n"),
-        ("%loop L\n[i0]\ni1 = int_mul(i0, i0)\n", "error line 3: not built\n"),
-        ("%loop L\n[]\nfinish(9223372036854775808)\n", "error line 3: not built\n"),
+        (
+            "%loop L\n[i0, i1]\ni0 = int_add(i0, i1)\nfinish(i2)\n",
+            "error line 3: not built\n",
+        ),
+        (
+            "%loop L\n[i0]\ni1 = int_add(i0, i2)\n",
+            "error line 3: not built\n",
+        ),
+        (
+            "%loop L\n[i0]\ni1 = int_mul(i0, i0)\n",
+            "error line 3: not built\n",
+        ),
+        (
+            "%loop L\n[]\nfinish(9223372036854775808)\n",
+            "error line 3: not built\n",
+        ),
         ("%loop L\n[]\nfinish()", "error line 4: not built\n"),
-        ("%loop L\n[i0]\nfinish(i0)\n%session\nstart A L ()\nrun A 1\n", "error line 5: not built\n"),
-        ("%loop L\n[]\nfinish()\n%session\nstart A M ()\nrun A 1\n", "error line 5: not built\n"),
-        ("%loop L\n[]\nfinish()\n%session\nstart A L ()\nrun A 1000001\n", "error line 6: not built\n"),
-        ("%loop L\n[]\nfinish()\n%session\nstart A L ()\nrun A 1\nrun A 1\n", "error line 7: not built\n"),
+        (
+            "%loop L\n[i0]\nfinish(i0)\n%session\nstart A L ()\nrun A 1\n",
+            "error line 5: not built\n",
+        ),
+        (
+            "%loop L\n[]\nfinish()\n%session\nstart A M ()\nrun A 1\n",
+            "error line 5: not built\n",
+        ),
+        (
+            "%loop L\n[]\nfinish()\n%session\nstart A L ()\nrun A 1000001\n",
+            "error line 6: not built\n",
+        ),
+        (
+            "%loop L\n[]\nfinish()\n%session\nstart A L ()\nrun A 1\nrun A 1\n",
+            "error line 7: not built\n",
+        ),
     ];
     for (input, line) in table {
         let (status, text) = served(&rt, &["run"], input)?;
@@ -104,7 +134,8 @@ fn a_line_that_is_not_the_next_is_named(rt: HostRuntime) -> Result<(), Fail> {
 fn spaces_comments_and_no_inputs_are_read(rt: HostRuntime) -> Result<(), Fail> {
     let input = " # a comment\n\n%loop  L \n [ ]\nfinish ( )\n%session\nstart  A L( )\n run A 007";
     let (status, text) = served(&rt, &["run"], input)?;
-    let want = "%image\nversion 1\nbase 8\n48c7c000000000c3\nentry L 0\nexit 0 L.a finish []\n%seen\nA started\nA finished none\ncalls 0\ncells 0\ncounts 1 instructions 0 bytes 0 loads 0 stores\n";
+    let want =
+        "%image\nversion 1\nbase 8\n48c7c000000000c3\nentry L 0\nexit 0 L.a finish []\n%seen\nA started\nA finished none\ncalls 0\ncells 0\ncounts 1 instructions 0 bytes 0 loads 0 stores\n";
     assert_eq!(rt; status, Status::Done);
     assert_eq!(rt; text.as_str(), want);
     Ok(())
@@ -119,7 +150,11 @@ fn other_words_and_faults_end_with_their_status(rt: HostRuntime) -> Result<(), F
         assert_eq!(rt; text.as_str(), "error usage\n");
     }
     let words = owned(rt.alloc(), &["run"])?;
-    let mut src = MemSource::new(Vec::from_slice(rt.alloc(), b"%loop L\n")?, 3, Vec::from_slice(rt.alloc(), &[1])?);
+    let mut src = MemSource::new(
+        Vec::from_slice(rt.alloc(), b"%loop L\n")?,
+        3,
+        Vec::from_slice(rt.alloc(), &[1])?,
+    );
     let mut sink = MemSink::new(rt.alloc(), 100, Vec::new(rt.alloc()))?;
     sink.reserve(100)?;
     let status = serve(rt.alloc(), &words, &mut src, &mut sink);

@@ -1,16 +1,14 @@
 -- How many instructions a run makes.
-use Rattle.std.proofs.Common.{◌≡◌, ℕ, zero, suc, ◌+◌, ◌-◌, ◌<◌, ◌≤◌, List, Bool, true, false, Option, Some, None, refl, sym, ap, ◌∙◌, subst, arith, inl, inr, ◌⊎◌}
+use Rattle.std.proofs.Common.{◌≡◌, ℕ, ◌+◌, ◌-◌, ◌≤◌, List, Bool, true, false, Option, Some, None, refl, sym, subst, arith, inl, inr}
 use Rattle.std.specs.Prelude.{ℤ, pos, ◌/◌, ◌+ℤ◌, ◌-ℤ◌, ◌==◌, if◌then◌else◌}
 use Rattle.x64_encode.specs.declared.instr.Reg.{Reg}
-use Rattle.x64_encode.specs.declared.instr.AluOp.{AluOp}
 use Rattle.x64_encode.specs.declared.instr.Instr.{Instr}
 use Rattle.x64_encode.specs.declared.instr.Instr.TheVariants.{MovReg, Load, Store, StoreImm, MovImm, Alu, AluImm, Imul, Not, Neg, ShiftCl, ShiftImm, Lea, Xchg, Set, Movzx, Jcc, Jmp, CallReg, JmpReg, Ret}
-use Rattle.x64_machine.specs.declared.state.Turn.{Turn}
-use Rattle.x64_machine.specs.declared.state.Turn.TheVariants.{Went, Stopped}
+use Rattle.x64_machine.specs.declared.state.Turn.TheVariants.{Stopped}
 use Rattle.x64_machine.specs.declared.state.Stop.TheVariants.{Returned, HostCall}
-use Rattle.x64_machine.specs.State.{State, Acted, acted, act, went, stops, loaded, stored, jumps_where, set_where, calls, returns_to, reg, with_reg, rsp, is_entry, word_at}
+use Rattle.x64_machine.specs.State.{State, Acted, act, went, stops, loaded, stored, jumps_where, set_where, calls, returns_to, reg, with_reg, rsp, is_entry, word_at}
 use Rattle.x64_machine.specs.Words.{writes, alu_result, wrap, unsigned}
-use Rattle.x64_machine.specs.Step.{MachineStep, StepWhere, Decoded, is_in, ahead, Begins}
+use Rattle.x64_machine.specs.Step.{MachineStep, StepWhere, Decoded, is_in, ahead}
 
 -- at most one instruction more
 abbrev pub IsOneMore : State → Acted → Type 0

@@ -1,5 +1,5 @@
 -- A run of the machine, step by step.
-use Rattle.std.proofs.Common.{◌≡◌, ℕ, zero, suc, ◌+◌, ◌-◌, ◌<◌, ◌≤◌, List, refl, sym, ap, ◌∙◌, subst, arith}
+use Rattle.std.proofs.Common.{◌≡◌, ℕ, suc, ◌+◌, ◌-◌, ◌<◌, List, refl, subst, arith}
 use Rattle.x64_machine.specs.declared.state.Turn.TheVariants.{Went, Stopped}
 use Rattle.x64_machine.specs.declared.state.Stop.{Stop}
 use Rattle.x64_machine.specs.State.{State, Acted, acted}

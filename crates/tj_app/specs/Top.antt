@@ -1,5 +1,5 @@
 -- What the program does with an input.
-use Rattle.std.specs.Prelude.{◌≡◌, ℕ, ◌+◌, ◌*◌, ◌≤◌, Bool, false, List, [], ◌∷◌, ◌++◌, length, codes, Option, Result, MatchResult}
+use Rattle.std.specs.Prelude.{◌≡◌, ℕ, ◌+◌, ◌*◌, ◌≤◌, List, ◌++◌, length, Option}
 use Rattle.std.specs.Io.KnownBytes.{Consumes, IsAtEnd, Appends}
 use Rattle.io_edge.specs.Causes.{Rose}
 use Rattle.tj_app.specs.declared.input.Program.{Program}
@@ -10,7 +10,6 @@ use Rattle.tj_app.specs.declared.refusal.Fault.TheVariants.{NotBuilt, Usage, Rea
 use Rattle.tj_app.specs.Sound.{IsSound, IsSelected}
 use Rattle.tj_app.specs.Session.{IsActivation}
 use Rattle.tj_app.specs.Output.{image_text, seen_text}
-use Rattle.tj_app.specs.Refusing.{fault_text}
 
 -- how many instructions the session's line may make
 abbrev pub budget : Program → Image → ℕ

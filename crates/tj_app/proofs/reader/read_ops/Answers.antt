@@ -1,4 +1,4 @@
-use Rattle.std.proofs.Common.{◌+◌, arith}
+use Rattle.std.proofs.Common.{arith}
 use Rattle.tj_app.proofs.Selecting.{more_ops}
 use Rattle.tj_app.proofs.reader.read_ops.Goals as goal
 

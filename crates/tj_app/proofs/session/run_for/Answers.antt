@@ -1,5 +1,5 @@
 use Rattle.std.proofs.Common.{arith}
-use Rattle.x64_machine.specs.declared.state.Turn.TheVariants.{Went, Stopped}
+use Rattle.x64_machine.specs.declared.state.Turn.TheVariants.{Went}
 use Rattle.x64_machine.specs.State.{acted}
 use Rattle.tj_app.proofs.Counting.{one_step}
 use Rattle.tj_app.proofs.Running.{leads_on, run_stops, run_ends}

@@ -1,0 +1,6 @@
+pub mod Selected
+pub mod Sound
+pub mod Session
+pub mod Output
+pub mod Refusing
+pub mod Top

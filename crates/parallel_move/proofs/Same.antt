@@ -1,0 +1,19 @@
+-- Two places that the derived `==` finds equal are equal.
+use Rattle.std.proofs.Common.{◌≡◌, ℕ, true, ap}
+use Rattle.std.proofs.lemmas.Bool.{eqb-true}
+use Rattle.x64_encode.specs.declared.instr.Reg.{Reg}
+use Rattle.x64_encode.specs.declared.place.Place.{Place}
+use Rattle.x64_encode.specs.declared.place.Place.TheVariants.{In, Word}
+use Rattle.x64_encode.specs.contracts.instr.RegPartialEq.TheImpl as reg_eq
+use Rattle.x64_encode.specs.contracts.place.PlacePartialEq.TheImpl as place_eq
+
+abbrev reg_of : ℕ → Reg
+reg_of n = record { 0 = n }
+
+reg_same : (a b : Reg) → reg_eq.ghosts.eq a b ≡ true → a ≡ b
+reg_same a b h = ap reg_of (eqb-true a.0 b.0 h)
+
+pub place_same : (a b : Place) → place_eq.ghosts.eq a b ≡ true → a ≡ b
+place_same (In a) (In b) h = ap In (reg_same a b h)
+place_same (Word a) (Word b) h = ap Word (eqb-true a b h)
+place_same _ _ h = cc

@@ -1,0 +1,9 @@
+//! Moves that together do the work of several moves at once.
+#![tactic(auto)]
+
+mod moving;
+
+pub use moving::{Move, moves};
+
+#[cfg(test)]
+mod tests;

@@ -1,0 +1,5 @@
+pub mod Words
+pub mod Form
+pub mod Known
+pub mod Meaning
+pub mod Draft

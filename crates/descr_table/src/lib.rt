@@ -1,0 +1,14 @@
+//! Descriptions of structures, arrays, calls, functions and prebuilt objects, as text and as a table.
+#![tactic(auto)]
+
+mod checks;
+mod draft;
+mod fault;
+mod form;
+mod known;
+mod line;
+mod values;
+mod words;
+
+pub use fault::{Refusal, TableFault};
+pub use form::{Form, Given, Part};

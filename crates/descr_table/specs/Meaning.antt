@@ -1,5 +1,5 @@
 -- What the lines of a table mean.
-use Rattle.std.specs.Prelude.{◌≡◌, ℕ, zero, suc, Bool, true, false, ◌||◌, not, Option, Some, None, Result, Ok, Err, List, [], ◌∷◌, ◌++◌, ◌+◌, ◌*◌, ◌==◌, nat_le, pos, length, map, sum, slice_get, unwrap_or, if◌then◌else◌}
+use Rattle.std.specs.Prelude.{◌≡◌, ℕ, zero, suc, Bool, true, false, ◌||◌, not, Option, Some, None, Result, Ok, Err, List, [], ◌∷◌, ◌++◌, ◌+◌, ◌*◌, ◌==◌, nat_lt, nat_le, pos, length, map, sum, slice_get, unwrap_or, if◌then◌else◌}
 use Rattle.std.specs.Str.{bytes_eq}
 use Rattle.std.specs.List.{list_any}
 use Rattle.text_lines.specs.Lines.{lines}
@@ -107,7 +107,11 @@ is_bad_initial (Items name array items) k t = list_any (λ v. is_bad_item (row_a
 
 -- ---- limits
 
--- more than the limit; what is counted is one above it
+-- as many as the limit are there already; what is counted is one above it
+abbrev pub full : What → ℕ → ℕ → Option Refusal
+full what limit n = if nat_lt n limit then None else Some (Limit what (limit + 1))
+
+-- more than the limit
 abbrev pub over : What → ℕ → ℕ → Option Refusal
 over what limit n = if nat_le n limit then None else Some (Limit what (limit + 1))
 
@@ -150,13 +154,13 @@ over_bytes n = if nat_le n 32768 then None else Some (Limit what.Prebuilt n)
 
 -- the limit that the line passes, the first in the order of the counts
 unfoldable pub limit_at : Form → Known → Table → ℕ → Option Refusal
-limit_at (Size name vtable) k t bytes = over what.Shapes 1024 (length t.shapes + 1)
-limit_at (Field name size kind immutable) k t bytes = over what.Fields 64 (length (fields_of size k t) + 1)
-limit_at (Array name kind) k t bytes = over what.Shapes 1024 (length t.shapes + 1)
+limit_at (Size name vtable) k t bytes = full what.Shapes 1024 (length t.shapes)
+limit_at (Field name size kind immutable) k t bytes = full what.Fields 64 (length (fields_of size k t))
+limit_at (Array name kind) k t bytes = full what.Shapes 1024 (length t.shapes)
 limit_at (Call name args gives reads writes) k t bytes =
-    or_else (over what.Calls 1024 (length t.calls + 1))
+    or_else (full what.Calls 1024 (length t.calls))
     (or_else (over what.Arguments 6 (length args)) (or_else (over what.Reads 16 (length reads)) (over what.Writes 16 (length writes))))
-limit_at (Function name) k t bytes = over what.Functions 1024 (length t.functions + 1)
+limit_at (Function name) k t bytes = full what.Functions 1024 (length t.functions)
 limit_at (Object name size fields) k t bytes = over_bytes (bytes + (8 + 8 * length (fields_of size k t)))
 limit_at (Items name array items) k t bytes = over_bytes (bytes + (16 + 8 * length items))
 

@@ -4,7 +4,7 @@ ghost use Rattle.std.specs.Prelude.{◌≡◌, ◌≤◌, ◌+◌, ◌*◌, ◌|
 ghost use Rattle.std.specs.List.{list_any};
 ghost use Rattle.text_lines.specs.Names.{has_name, number_of};
 ghost use Rattle.descr_table.specs.Known.{repeats};
-ghost use Rattle.descr_table.specs.Meaning.{is_misplaced, is_twice, is_undefined, is_unknown, is_of, is_bad_field, is_bad_part, is_bad_item, is_bad_initial, over, over_bytes, or_else, fields_of, limit_at, refusal_at, row_at, place};
+ghost use Rattle.descr_table.specs.Meaning.{is_misplaced, is_twice, is_undefined, is_unknown, is_of, is_bad_field, is_bad_part, is_bad_item, is_bad_initial, full, over, over_bytes, or_else, fields_of, limit_at, refusal_at, row_at, place};
 ghost use Rattle.descr_table.specs.Draft.{table_of};
 
 use crate::draft::Draft;
@@ -54,6 +54,19 @@ fn is_bad_item(row: &Option<ArrayRow>, value: &Given) -> bool
         None => true,
         Some(row) => !is_of(value, row.kind),
     }
+}
+
+fn full(what: What, limit: usize, n: usize) -> Option<Refusal>
+    requires { limit < 2 ^ 32 }
+    ensures { result ≡ full what limit n }
+{
+    if n < limit {
+        return None;
+    }
+    Some(Refusal::Limit {
+        what,
+        count: limit as u64 + 1,
+    })
 }
 
 fn over(what: What, limit: usize, n: usize) -> Option<Refusal>
@@ -247,9 +260,9 @@ impl Draft {
     }
 
     fn call_limit(&self, args: &List<Kind>, reads: &List<Text>, writes: &List<Text>) -> Option<Refusal>
-        ensures { result ≡ or_else (over What.Calls 1024 (length self.now.calls.items + 1)) (or_else (over What.Arguments 6 (length args.now)) (or_else (over What.Reads 16 (length reads.now)) (over What.Writes 16 (length writes.now)))) }
+        ensures { result ≡ or_else (full What.Calls 1024 (length self.now.calls.items)) (or_else (over What.Arguments 6 (length args.now)) (or_else (over What.Reads 16 (length reads.now)) (over What.Writes 16 (length writes.now)))) }
     {
-        if let Some(why) = over(What::Calls, 1024, self.calls.len() + 1) {
+        if let Some(why) = full(What::Calls, 1024, self.calls.len()) {
             return Some(why);
         }
         if let Some(why) = over(What::Arguments, 6, args.items().len()) {
@@ -274,16 +287,16 @@ impl Draft {
         ensures { IfOk result (λ o. o ≡ limit_at form.now self.now.known (table_of self.now) self.now.bytes) }
     {
         match form {
-            Form::Size { .. } => Ok(over(What::Shapes, 1024, self.shapes.len() + 1)),
-            Form::Field { size, .. } => Ok(over(What::Fields, 64, self.field_count(size) + 1)),
-            Form::Array { .. } => Ok(over(What::Shapes, 1024, self.shapes.len() + 1)),
+            Form::Size { .. } => Ok(full(What::Shapes, 1024, self.shapes.len())),
+            Form::Field { size, .. } => Ok(full(What::Fields, 64, self.field_count(size))),
+            Form::Array { .. } => Ok(full(What::Shapes, 1024, self.shapes.len())),
             Form::Call {
                 args,
                 reads,
                 writes,
                 ..
             } => Ok(self.call_limit(args, reads, writes)),
-            Form::Function { .. } => Ok(over(What::Functions, 1024, self.functions.len() + 1)),
+            Form::Function { .. } => Ok(full(What::Functions, 1024, self.functions.len())),
             Form::Object { size, .. } => self.bytes_limit(8, self.field_count(size)),
             Form::Items { items, .. } => self.bytes_limit(16, items.items().len()),
         }

@@ -7,6 +7,7 @@ mod fault;
 mod form;
 mod known;
 mod line;
+mod puts;
 mod values;
 mod words;
 

@@ -1,7 +1,8 @@
 //! Sources and sinks of bytes, which count their faults.
 #![tactic(auto)]
 
-mod memory;
+mod mem_sink;
+mod mem_source;
 mod standard;
 mod whole;
 
@@ -11,7 +12,8 @@ ghost use Rattle.std.specs.Io.{ReadsAtMost, WritesAtMost};
 ghost use Rattle.std.specs.Io.KnownBytes.{ReadConsumes, WriteAppends};
 ghost use Rattle.io_edge.specs.Causes.{HasCause};
 
-pub use memory::{MemSink, MemSource, PlainSource};
+pub use mem_sink::MemSink;
+pub use mem_source::{MemSource, PlainSource};
 pub use standard::{StdSink, StdSource};
 pub use whole::{ReadEnd, WriteFault, read_all, write_all};
 
@@ -49,3 +51,6 @@ pub trait Sink {
         ensures bytes { WriteAppends (taken self.old) (taken self.new) result buf.now }
         ensures cause { HasCause (faults self.old) (faults self.new) result };
 }
+
+#[cfg(test)]
+mod tests;

@@ -4,16 +4,12 @@ ghost use Rattle.io_edge.specs.Causes.{Rose};
 
 use crate::{Failed, Sink, Source};
 use std::alloc::{AllocError, Global};
-use thiserror::Error;
 
 /// Why a source was not read to its end.
-#[derive(Debug, Drop, Error)]
+#[derive(Debug, Drop, PartialEq, Eq)]
 pub enum ReadEnd {
-    #[error("the source failed")]
     ReadFault,
-    #[error("more than {limit} bytes")]
     TooLong { limit: usize },
-    #[error("out of memory")]
     OutOfMemory,
 }
 

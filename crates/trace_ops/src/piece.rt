@@ -1,4 +1,7 @@
-use crate::{Arg, BoxId, Descr, List, OpCode, ShapeOf, Text, Word};
+ghost use Rattle.std.specs.Prelude.{◌≡◌, IfOk};
+
+use crate::{Arg, BoxId, CopyIn, Descr, List, OpCode, ShapeOf, Text, Word};
+use std::alloc::{AllocError, Global};
 
 /// What a slot, a part or a spot holds: an argument, or a virtual object by its number.
 #[derive(Clone, Copy, Debug, PartialEq, Eq, Hash)]
@@ -8,7 +11,7 @@ pub enum Val {
 }
 
 /// A virtual object.
-#[derive(Debug, Drop)]
+#[derive(Debug, PartialEq, Eq, Hash, Drop)]
 pub struct Shape {
     pub of: ShapeOf,
     pub parts: List<Val>,
@@ -29,7 +32,7 @@ pub struct Pending {
     pub value: Val,
 }
 
-#[derive(Debug, Drop)]
+#[derive(Debug, PartialEq, Eq, Hash, Drop)]
 pub struct OptFrame {
     pub name: Text,
     pub pc: u32,
@@ -37,7 +40,7 @@ pub struct OptFrame {
 }
 
 /// What a guard needs to go on in the recorded trace.
-#[derive(Debug, Drop)]
+#[derive(Debug, PartialEq, Eq, Hash, Drop)]
 pub struct Snapshot {
     pub frames: List<OptFrame>,
     pub shapes: List<Shape>,
@@ -56,7 +59,7 @@ pub struct PieceId {
     pub half: Half,
 }
 
-#[derive(Debug, Drop)]
+#[derive(Debug, PartialEq, Eq, Hash, Drop)]
 pub enum OptOp {
     Plain {
         code: OpCode,
@@ -83,7 +86,7 @@ pub enum OptOp {
     },
 }
 
-#[derive(Debug, Drop)]
+#[derive(Debug, PartialEq, Eq, Hash, Drop)]
 pub struct Piece {
     pub id: PieceId,
     pub label: List<BoxId>,
@@ -91,13 +94,13 @@ pub struct Piece {
 }
 
 /// The pieces of one recorded trace.
-#[derive(Debug, Drop)]
+#[derive(Debug, PartialEq, Eq, Hash, Drop)]
 pub struct OptTrace {
     pub pieces: List<Piece>,
 }
 
 /// What is known of the boxes at an entry.
-#[derive(Debug, Drop)]
+#[derive(Debug, PartialEq, Eq, Hash, Drop)]
 pub enum Fact {
     Between(BoxId, Word, Word),
     Nonnull(BoxId),
@@ -107,11 +110,207 @@ pub enum Fact {
 }
 
 /// What is known where a piece begins: a value for each recorded input, over the boxes of the label.
-#[derive(Debug, Drop)]
+#[derive(Debug, PartialEq, Eq, Hash, Drop)]
 pub struct Entry {
     pub label: List<BoxId>,
     pub values: List<Val>,
     pub shapes: List<Shape>,
     pub pending: List<Pending>,
     pub facts: List<Fact>,
+}
+
+impl Shape {
+    /// An equal shape.
+    pub fn copy(&self, alloc: Global) -> Result<Shape, AllocError>
+        ensures { IfOk result (λ c. c ≡ self.now) }
+    {
+        let parts = self.parts.copy(alloc)?;
+        Ok(Shape { of: self.of, parts })
+    }
+}
+
+impl CopyIn for Shape {
+    fn copy_in(&self, alloc: Global) -> Result<Self, AllocError> {
+        self.copy(alloc)
+    }
+}
+
+impl OptFrame {
+    /// An equal frame.
+    pub fn copy(&self, alloc: Global) -> Result<OptFrame, AllocError>
+        ensures { IfOk result (λ c. c ≡ self.now) }
+    {
+        let slots = self.slots.copy(alloc)?;
+        Ok(OptFrame {
+            name: self.name,
+            pc: self.pc,
+            slots,
+        })
+    }
+}
+
+impl CopyIn for OptFrame {
+    fn copy_in(&self, alloc: Global) -> Result<Self, AllocError> {
+        self.copy(alloc)
+    }
+}
+
+impl Snapshot {
+    /// An equal snapshot.
+    pub fn copy(&self, alloc: Global) -> Result<Snapshot, AllocError>
+        ensures { IfOk result (λ c. c ≡ self.now) }
+    {
+        let frames = self.frames.copy_each(alloc)?;
+        let shapes = self.shapes.copy_each(alloc)?;
+        let pending = self.pending.copy(alloc)?;
+        Ok(Snapshot {
+            frames,
+            shapes,
+            pending,
+        })
+    }
+}
+
+impl OptOp {
+    /// An equal operation.
+    pub fn copy(&self, alloc: Global) -> Result<OptOp, AllocError>
+        ensures { IfOk result (λ c. c ≡ self.now) }
+    {
+        match self {
+            OptOp::Plain {
+                code,
+                result: gives,
+                args,
+                descr,
+            } => {
+                let args = args.copy(alloc)?;
+                Ok(OptOp::Plain {
+                    code: *code,
+                    result: *gives,
+                    args,
+                    descr: *descr,
+                })
+            }
+            OptOp::Guard {
+                code,
+                args,
+                guard,
+                snap,
+            } => {
+                let args = args.copy(alloc)?;
+                let snap = snap.copy(alloc)?;
+                Ok(OptOp::Guard {
+                    code: *code,
+                    args,
+                    guard: *guard,
+                    snap,
+                })
+            }
+            OptOp::Exit { guard, snap } => {
+                let snap = snap.copy(alloc)?;
+                Ok(OptOp::Exit {
+                    guard: *guard,
+                    snap,
+                })
+            }
+            OptOp::Jump { to, args } => {
+                let args = args.copy(alloc)?;
+                Ok(OptOp::Jump { to: *to, args })
+            }
+            OptOp::Finish { value } => Ok(OptOp::Finish { value: *value }),
+        }
+    }
+}
+
+impl CopyIn for OptOp {
+    fn copy_in(&self, alloc: Global) -> Result<Self, AllocError> {
+        self.copy(alloc)
+    }
+}
+
+impl Piece {
+    /// An equal piece.
+    pub fn copy(&self, alloc: Global) -> Result<Piece, AllocError>
+        ensures { IfOk result (λ c. c ≡ self.now) }
+    {
+        let label = self.label.copy(alloc)?;
+        let ops = self.ops.copy_each(alloc)?;
+        Ok(Piece {
+            id: self.id,
+            label,
+            ops,
+        })
+    }
+}
+
+impl CopyIn for Piece {
+    fn copy_in(&self, alloc: Global) -> Result<Self, AllocError> {
+        self.copy(alloc)
+    }
+}
+
+impl OptTrace {
+    /// An equal trace.
+    pub fn copy(&self, alloc: Global) -> Result<OptTrace, AllocError>
+        ensures { IfOk result (λ c. c ≡ self.now) }
+    {
+        let pieces = self.pieces.copy_each(alloc)?;
+        Ok(OptTrace { pieces })
+    }
+}
+
+impl CopyIn for OptTrace {
+    fn copy_in(&self, alloc: Global) -> Result<Self, AllocError> {
+        self.copy(alloc)
+    }
+}
+
+impl Fact {
+    /// An equal fact.
+    pub fn copy(&self, alloc: Global) -> Result<Fact, AllocError>
+        ensures { IfOk result (λ c. c ≡ self.now) }
+    {
+        match self {
+            Fact::Between(of, low, high) => Ok(Fact::Between(*of, *low, *high)),
+            Fact::Nonnull(of) => Ok(Fact::Nonnull(*of)),
+            Fact::ClassOf(of, size) => Ok(Fact::ClassOf(*of, *size)),
+            Fact::Holds(base, spot, value) => Ok(Fact::Holds(*base, *spot, *value)),
+            Fact::Same(code, args, value) => {
+                let args = args.copy(alloc)?;
+                Ok(Fact::Same(*code, args, *value))
+            }
+        }
+    }
+}
+
+impl CopyIn for Fact {
+    fn copy_in(&self, alloc: Global) -> Result<Self, AllocError> {
+        self.copy(alloc)
+    }
+}
+
+impl Entry {
+    /// An equal entry.
+    pub fn copy(&self, alloc: Global) -> Result<Entry, AllocError>
+        ensures { IfOk result (λ c. c ≡ self.now) }
+    {
+        let label = self.label.copy(alloc)?;
+        let values = self.values.copy(alloc)?;
+        let shapes = self.shapes.copy_each(alloc)?;
+        let pending = self.pending.copy(alloc)?;
+        let facts = self.facts.copy_each(alloc)?;
+        Ok(Entry {
+            label,
+            values,
+            shapes,
+            pending,
+            facts,
+        })
+    }
+}
+
+impl CopyIn for Entry {
+    fn copy_in(&self, alloc: Global) -> Result<Self, AllocError> {
+        self.copy(alloc)
+    }
 }

@@ -1,4 +1,7 @@
-use crate::{Kind, List, Text, Word};
+ghost use Rattle.std.specs.Prelude.{◌≡◌, IfOk};
+
+use crate::{CopyIn, Kind, List, Text, Word};
+use std::alloc::{AllocError, Global};
 
 /// A size or an array by its row.
 #[derive(Clone, Copy, Debug, PartialEq, Eq, Hash)]
@@ -7,14 +10,14 @@ pub enum ShapeOf {
     Array(u32),
 }
 
-#[derive(Debug, Drop)]
+#[derive(Debug, PartialEq, Eq, Hash, Drop)]
 pub struct SizeRow {
     pub name: Text,
     pub vtable: Option<Text>,
     pub fields: List<u32>,
 }
 
-#[derive(Clone, Copy, Debug)]
+#[derive(Clone, Copy, Debug, PartialEq, Eq, Hash)]
 pub struct FieldRow {
     pub name: Text,
     pub size: u32,
@@ -22,13 +25,13 @@ pub struct FieldRow {
     pub immutable: bool,
 }
 
-#[derive(Clone, Copy, Debug)]
+#[derive(Clone, Copy, Debug, PartialEq, Eq, Hash)]
 pub struct ArrayRow {
     pub name: Text,
     pub kind: Kind,
 }
 
-#[derive(Debug, Drop)]
+#[derive(Debug, PartialEq, Eq, Hash, Drop)]
 pub struct CallRow {
     pub name: Text,
     pub args: List<Kind>,
@@ -37,14 +40,14 @@ pub struct CallRow {
     pub writes: List<u32>,
 }
 
-#[derive(Clone, Copy, Debug)]
+#[derive(Clone, Copy, Debug, PartialEq, Eq, Hash)]
 pub enum Initial {
     Int(Word),
     Null,
     Ptr(u32),
 }
 
-#[derive(Debug, Drop)]
+#[derive(Debug, PartialEq, Eq, Hash, Drop)]
 pub struct PrebuiltRow {
     pub name: Text,
     pub of: ShapeOf,
@@ -52,7 +55,7 @@ pub struct PrebuiltRow {
 }
 
 /// The descriptions that a set of traces cites.
-#[derive(Debug, Drop)]
+#[derive(Debug, PartialEq, Eq, Hash, Drop)]
 pub struct Table {
     pub shapes: List<ShapeOf>,
     pub sizes: List<SizeRow>,
@@ -87,4 +90,92 @@ pub enum What {
     RvWeight,
     Codes,
     Instructions,
+}
+
+impl SizeRow {
+    /// An equal row.
+    pub fn copy(&self, alloc: Global) -> Result<SizeRow, AllocError>
+        ensures { IfOk result (λ c. c ≡ self.now) }
+    {
+        let fields = self.fields.copy(alloc)?;
+        Ok(SizeRow {
+            name: self.name,
+            vtable: self.vtable,
+            fields,
+        })
+    }
+}
+
+impl CopyIn for SizeRow {
+    fn copy_in(&self, alloc: Global) -> Result<Self, AllocError> {
+        self.copy(alloc)
+    }
+}
+
+impl CallRow {
+    /// An equal row.
+    pub fn copy(&self, alloc: Global) -> Result<CallRow, AllocError>
+        ensures { IfOk result (λ c. c ≡ self.now) }
+    {
+        let args = self.args.copy(alloc)?;
+        let reads = self.reads.copy(alloc)?;
+        let writes = self.writes.copy(alloc)?;
+        Ok(CallRow {
+            name: self.name,
+            args,
+            result: self.result,
+            reads,
+            writes,
+        })
+    }
+}
+
+impl CopyIn for CallRow {
+    fn copy_in(&self, alloc: Global) -> Result<Self, AllocError> {
+        self.copy(alloc)
+    }
+}
+
+impl PrebuiltRow {
+    /// An equal row.
+    pub fn copy(&self, alloc: Global) -> Result<PrebuiltRow, AllocError>
+        ensures { IfOk result (λ c. c ≡ self.now) }
+    {
+        let parts = self.parts.copy(alloc)?;
+        Ok(PrebuiltRow {
+            name: self.name,
+            of: self.of,
+            parts,
+        })
+    }
+}
+
+impl CopyIn for PrebuiltRow {
+    fn copy_in(&self, alloc: Global) -> Result<Self, AllocError> {
+        self.copy(alloc)
+    }
+}
+
+impl Table {
+    /// An equal table.
+    pub fn copy(&self, alloc: Global) -> Result<Table, AllocError>
+        ensures { IfOk result (λ c. c ≡ self.now) }
+    {
+        let shapes = self.shapes.copy(alloc)?;
+        let sizes = self.sizes.copy_each(alloc)?;
+        let fields = self.fields.copy(alloc)?;
+        let arrays = self.arrays.copy(alloc)?;
+        let calls = self.calls.copy_each(alloc)?;
+        let functions = self.functions.copy(alloc)?;
+        let prebuilts = self.prebuilts.copy_each(alloc)?;
+        Ok(Table {
+            shapes,
+            sizes,
+            fields,
+            arrays,
+            calls,
+            functions,
+            prebuilts,
+        })
+    }
 }

@@ -2,4 +2,5 @@ pub mod Words
 pub mod Form
 pub mod Known
 pub mod Meaning
+pub mod Reading
 pub mod Draft

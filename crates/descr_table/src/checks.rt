@@ -215,7 +215,7 @@ impl Draft {
         }
     }
 
-    fn place_of_size(&self, size: &Text) -> usize
+    pub fn place_of_size(&self, size: &Text) -> usize
         ensures { result ≡ place size.now self.now.known.sizes }
     {
         self.known.sizes.number(size).unwrap_or(0)

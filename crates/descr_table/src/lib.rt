@@ -8,8 +8,10 @@ mod form;
 mod known;
 mod line;
 mod puts;
+mod reading;
 mod values;
 mod words;
 
 pub use fault::{Refusal, TableFault};
 pub use form::{Form, Given, Part};
+pub use reading::read_table;

@@ -1,4 +1,6 @@
 pub mod Lists
 pub mod Rows
 pub mod Few
+pub mod Noted
+pub mod Defined
 pub mod Steps

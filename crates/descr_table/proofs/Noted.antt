@@ -28,7 +28,7 @@ Names = List (List ℕ)
 -- ---- a line that is not refused
 
 abbrev tests : Bool → Bool → Bool → Bool → Option Refusal
-tests a b c d = first_of ((a , Syntax) ∷ (b , Twice) ∷ (c , UnknownName) ∷ (d , BadInitial) ∷ [])
+tests a b c d = first_of ((a, Syntax) ∷ (b, Twice) ∷ (c, UnknownName) ∷ (d, BadInitial) ∷ [])
 
 none_parts : (a b c d : Bool) (l : Option Refusal) → or_else (tests a b c d) l ≡ None → (b ≡ false) × (l ≡ None)
 none_parts true b c d l e = absurd cc
@@ -178,5 +178,5 @@ kept f defined old new is e puts =
     record {
       known = puts.known ∙ ap (noted f) is.known ∙ noted_names f defined t twice ∙ sym (ap names_of table);
       bytes = puts.bytes ∙ more ∙ sym (bytes_put f defined t) ∙ sym (ap bytes_of table);
-      fits = rw puts.bytes le
+      fits = rw puts.bytes le;
     }

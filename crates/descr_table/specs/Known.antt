@@ -8,14 +8,14 @@ use Rattle.descr_table.specs.declared.known.Known.{Known}
 
 abbrev pub names_of : Table → Known
 names_of t = record {
-    sizes = map (λ r. r.name) t.sizes;
-    vtables = flat_map (λ r. option_to_list r.vtable) t.sizes;
-    fields = map (λ r. r.name) t.fields;
-    arrays = map (λ r. r.name) t.arrays;
-    calls = map (λ r. r.name) t.calls;
-    functions = t.functions;
-    prebuilts = map (λ r. r.name) t.prebuilts
-  }
+  sizes = map (λ r. r.name) t.sizes;
+  vtables = flat_map (λ r. option_to_list r.vtable) t.sizes;
+  fields = map (λ r. r.name) t.fields;
+  arrays = map (λ r. r.name) t.arrays;
+  calls = map (λ r. r.name) t.calls;
+  functions = t.functions;
+  prebuilts = map (λ r. r.name) t.prebuilts;
+}
 
 -- a size, field, array or call descr has this name
 abbrev pub is_named : List ℕ → Known → Bool

@@ -30,9 +30,14 @@ unfoldable pub letters_at : List Kind → List ℕ → Option (List Kind)
 letters_at so_far [] = Some so_far
 letters_at so_far (c ∷ cs) = kind_of_letter c >>= λ k. letters_at (so_far ++ k ∷ []) cs
 
+abbrev pub some_kinds : Option (List Kind) → Option (List Kind)
+some_kinds None = None
+some_kinds (Some []) = None
+some_kinds (Some (k ∷ ks)) = Some (k ∷ ks)
+
 -- letters i and r, or - for none
 unfoldable pub kinds_of : List ℕ → Option (List Kind)
-kinds_of word = if bytes_eq word (codes "-") then Some [] else letters_at [] word
+kinds_of word = if bytes_eq word (codes "-") then Some [] else some_kinds (letters_at [] word)
 
 -- a list that is written has a name
 abbrev pub some_names : Option (List (List ℕ)) → Option (List (List ℕ))

@@ -108,7 +108,10 @@ fn bytes_with(bytes: u64, head: u64, words: usize) -> Result<u64, AllocError>
 fn lacks_object(defined: &Names, parts: &List<Part>) -> bool
     ensures { result ≡ list_any (λ p. is_undefined defined.now p.value) parts.now }
 {
-    parts.items().iter().any(|p| is_undefined(defined, &p.value))
+    parts
+        .items()
+        .iter()
+        .any(|p| is_undefined(defined, &p.value))
 }
 
 fn lacks_item(defined: &Names, items: &List<Given>) -> bool
@@ -192,7 +195,10 @@ impl Draft {
     fn lacks_part(&self, parts: &List<Part>) -> bool
         ensures { result ≡ list_any (λ p. not (has_name p.name self.now.known.fields)) parts.now }
     {
-        parts.items().iter().any(|p| !self.known.fields.has(&p.name))
+        parts
+            .items()
+            .iter()
+            .any(|p| !self.known.fields.has(&p.name))
     }
 
     #[tactic(auto, unfolding(crate::specs::Meaning::is_unknown))]
@@ -259,7 +265,12 @@ impl Draft {
         }
     }
 
-    fn call_limit(&self, args: &List<Kind>, reads: &List<Text>, writes: &List<Text>) -> Option<Refusal>
+    fn call_limit(
+        &self,
+        args: &List<Kind>,
+        reads: &List<Text>,
+        writes: &List<Text>,
+    ) -> Option<Refusal>
         ensures { result ≡ or_else (full What.Calls 1024 (length self.now.calls.items)) (or_else (over What.Arguments 6 (length args.now)) (or_else (over What.Reads 16 (length reads.now)) (over What.Writes 16 (length writes.now)))) }
     {
         if let Some(why) = full(What::Calls, 1024, self.calls.len()) {

@@ -6,7 +6,10 @@ use trace_ops::{Kind, List, Text, Word};
 #[derive(Debug, Drop)]
 pub enum Form {
     /// A structure, with or without a vtable.
-    Size { name: Text, vtable: Option<Text> },
+    Size {
+        name: Text,
+        vtable: Option<Text>,
+    },
     /// A field of a structure.
     Field {
         name: Text,
@@ -15,7 +18,10 @@ pub enum Form {
         immutable: bool,
     },
     /// An array of integers or references.
-    Array { name: Text, kind: Kind },
+    Array {
+        name: Text,
+        kind: Kind,
+    },
     /// What a call takes, gives, reads and writes. No result is `None`.
     Call {
         name: Text,
@@ -25,7 +31,9 @@ pub enum Form {
         writes: List<Text>,
     },
     /// A function of the host.
-    Function { name: Text },
+    Function {
+        name: Text,
+    },
     /// A prebuilt structure with some of its fields.
     Object {
         name: Text,

@@ -15,3 +15,6 @@ mod words;
 pub use fault::{Refusal, TableFault};
 pub use form::{Form, Given, Part};
 pub use reading::read_table;
+
+#[cfg(test)]
+mod tests;

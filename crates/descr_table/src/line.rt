@@ -129,12 +129,7 @@ fn call_at(alloc: Global, line: &[u8]) -> Result<Option<Form>, AllocError>
     }))
 }
 
-fn object_at(
-    alloc: Global,
-    name: Text,
-    size: Text,
-    line: &[u8],
-) -> Result<Option<Form>, AllocError>
+fn object_at(alloc: Global, name: Text, size: Text, line: &[u8]) -> Result<Option<Form>, AllocError>
     ensures { IfOk result (λ o. o ≡ object_at name size (words line.now)) }
 {
     let Some(fields) = parts_at(alloc, line)? else {
@@ -143,12 +138,7 @@ fn object_at(
     Ok(Some(Form::Object { name, size, fields }))
 }
 
-fn items_at(
-    alloc: Global,
-    name: Text,
-    array: Text,
-    line: &[u8],
-) -> Result<Option<Form>, AllocError>
+fn items_at(alloc: Global, name: Text, array: Text, line: &[u8]) -> Result<Option<Form>, AllocError>
     ensures { IfOk result (λ o. o ≡ items_at name array (words line.now)) }
 {
     let Some(items) = array_of(alloc, line)? else {

@@ -77,12 +77,7 @@ fn fault_at(line: u32, why: Refusal) -> TableFault
 }
 
 // Puts a form that is not refused.
-fn read_form(
-    draft: &mut Draft,
-    defined: &Names,
-    number: u32,
-    form: &Form,
-) -> Result<(), TableFault>
+fn read_form(draft: &mut Draft, defined: &Names, number: u32, form: &Form) -> Result<(), TableFault>
     requires is_draft { IsDraft draft.old }
     requires few { Few (table_of draft.old) (2 ^ 32 - 2) }
     requires small { length defined.now < 2 ^ 32 }
@@ -104,12 +99,7 @@ fn read_form(
 
 // Reads one line over the earlier ones.
 #[tactic(auto, unfolding(crate::specs::Reading::read_line))]
-fn read_line(
-    draft: &mut Draft,
-    defined: &Names,
-    number: u32,
-    line: &[u8],
-) -> Result<(), TableFault>
+fn read_line(draft: &mut Draft, defined: &Names, number: u32, line: &[u8]) -> Result<(), TableFault>
     requires is_draft { IsDraft draft.old }
     requires few { Few (table_of draft.old) (2 ^ 32 - 2) }
     requires small { length defined.now < 2 ^ 32 }

@@ -3,7 +3,7 @@
 ghost use Rattle.std.specs.Prelude.{◌≡◌, IfOk, []};
 ghost use Rattle.text_lines.specs.Words.{words};
 ghost use Rattle.text_lines.specs.Reading.{Gives};
-ghost use Rattle.descr_table.specs.Words.{kind_at, result_at, kind_of_letter, letters_at, kinds_of, some_names, names_at, reads_at, onward, reads_of, writes_of};
+ghost use Rattle.descr_table.specs.Words.{kind_at, result_at, kind_of_letter, letters_at, some_kinds, kinds_of, some_names, names_at, reads_at, onward, reads_of, writes_of};
 
 use std::alloc::{AllocError, Global};
 use text_lines::{is_name, next_word};
@@ -68,6 +68,18 @@ fn letters_at(alloc: Global, word: &[u8]) -> Result<Option<List<Kind>>, AllocErr
     Ok(Some(List::of(kinds)))
 }
 
+fn some_kinds(kinds: Option<List<Kind>>) -> Option<List<Kind>>
+    ensures { result ≡ some_kinds kinds }
+{
+    let Some(kinds) = kinds else {
+        return None;
+    };
+    if kinds.items().is_empty() {
+        return None;
+    }
+    Some(kinds)
+}
+
 /// The kinds that a word lists by letters; `-` lists none.
 #[tactic(auto, unfolding(crate::specs::Words::kinds_of))]
 pub fn kinds_of(alloc: Global, word: &[u8]) -> Result<Option<List<Kind>>, AllocError>
@@ -76,7 +88,7 @@ pub fn kinds_of(alloc: Global, word: &[u8]) -> Result<Option<List<Kind>>, AllocE
     if word == b"-".as_slice() {
         return Ok(Some(List::of(Vec::new(alloc))));
     }
-    letters_at(alloc, word)
+    Ok(some_kinds(letters_at(alloc, word)?))
 }
 
 // The names up to the end of the line.

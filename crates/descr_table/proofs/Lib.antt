@@ -4,3 +4,4 @@ pub mod Few
 pub mod Noted
 pub mod Defined
 pub mod Steps
+pub mod Again

@@ -4,3 +4,4 @@ pub mod Known
 pub mod Meaning
 pub mod Reading
 pub mod Draft
+pub mod Spelling

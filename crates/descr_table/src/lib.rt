@@ -6,6 +6,7 @@ mod draft;
 mod fault;
 mod form;
 mod known;
+mod laws;
 mod line;
 mod puts;
 mod reading;
@@ -14,6 +15,7 @@ mod words;
 
 pub use fault::{Refusal, TableFault};
 pub use form::{Form, Given, Part};
+pub use laws::table_laws;
 pub use reading::read_table;
 
 #[cfg(test)]

@@ -5,3 +5,4 @@ pub mod Noted
 pub mod Defined
 pub mod Steps
 pub mod Again
+pub mod Takes

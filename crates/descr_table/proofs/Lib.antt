@@ -6,3 +6,4 @@ pub mod Defined
 pub mod Steps
 pub mod Again
 pub mod Takes
+pub mod PartsText

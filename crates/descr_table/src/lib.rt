@@ -12,11 +12,13 @@ mod puts;
 mod reading;
 mod values;
 mod words;
+mod writing;
 
 pub use fault::{Refusal, TableFault};
 pub use form::{Form, Given, Part};
 pub use laws::table_laws;
 pub use reading::read_table;
+pub use writing::write_table;
 
 #[cfg(test)]
 mod tests;

@@ -1,4 +1,4 @@
-use crate::read_table;
+use crate::{read_table, write_table};
 use std::alloc::{AllocError, Global};
 use std::test::*;
 
@@ -132,5 +132,26 @@ fn first_parts(alloc: Global, text: &[u8]) -> Result<String, AllocError> {
 fn a_prebuilt_lists_its_parts_in_field_order(rt: HostRuntime) -> Result<(), Fail> {
     let parts = first_parts(rt.alloc(), NODE)?;
     assert_eq!(rt; parts.as_str(), "[Int(1), Int(10), Null]");
+    Ok(())
+}
+
+// What is written of the table that a text stands for.
+fn written(alloc: Global, text: &[u8]) -> Result<Vec<u8>, AllocError> {
+    if text.len() > 100000 {
+        return Ok(Vec::new(alloc));
+    }
+    match read_table(alloc, text, 1) {
+        Ok(table) => write_table(alloc, &table),
+        Err(_) => Ok(Vec::new(alloc)),
+    }
+}
+
+// One line of each kind, as they are written.
+const LOOP: &[u8] =
+    b"size W_Int vtable W_Int_vt\nsize Cell\narray ia i\narray ra r\nfield intval of W_Int i\nfield count of Cell i immutable\nfield next of Cell r\ncalldescr tickd args i result i\ncalldescr t2 args - result n reads intval next writes count\ncalldescr t3 args ri result r writes next\nfunction tick\nprebuilt zero W_Int intval=0\nprebuilt stat Cell count=-5 next=zero\nprebuilt low ia [0, -9223372036854775808]\nprebuilt refs ra [NULL, stat, refs]\nprebuilt none ia []\n";
+
+#[test]
+fn a_table_is_written_and_read_back(rt: HostRuntime) -> Result<(), Fail> {
+    assert_eq!(rt; written(rt.alloc(), LOOP)?.as_slice(), LOOP);
     Ok(())
 }

@@ -1,5 +1,5 @@
 -- What is spelled is read.
-use Rattle.std.proofs.Common.{◌≡◌, ℕ, ◌<◌, Bool, true, false, cond, List, [], ◌∷◌, ◌++◌, length, map, Option, Some, None, refl, sym, ap, subst, ◌∙◌, arith, append_assoc}
+use Rattle.std.proofs.Common.{◌≡◌, ℕ, Bool, true, false, List, [], ◌∷◌, ◌++◌, map, Option, Some, None, refl, sym, ap, ◌∙◌, append_assoc}
 use Rattle.std.specs.Prelude.{codes}
 use Rattle.std.specs.Str.{bytes_eq}
 use Rattle.std.specs.List.{AllByRecursion}
@@ -7,7 +7,7 @@ use Rattle.std.proofs.lemmas.List.{append-nil}
 use Rattle.std.proofs.lemmas.Slice.Eq.{bytes_eq-Decides}
 use Rattle.text_lines.specs.Words.{is_name, is_letter}
 use Rattle.text_lines.specs.Numbers.{integer_of, decimal_of, decimal_behind}
-use Rattle.text_lines.specs.Reading.{◌>>=◌, word_at, name_at, key_at, ended}
+use Rattle.text_lines.specs.Reading.{◌>>=◌, name_at, key_at}
 use Rattle.trace_ops.specs.declared.trace.Kind.{Kind}
 use Rattle.trace_ops.specs.declared.trace.Kind.TheVariants.{Int, Ref}
 use Rattle.descr_table.specs.declared.form.Form.{Form}
@@ -16,7 +16,7 @@ use Rattle.descr_table.specs.declared.form.Given.{Given}
 use Rattle.descr_table.specs.declared.form.Part.{Part}
 use Rattle.descr_table.specs.Words.{kind_at, result_at, letters_at, some_kinds, kinds_of, some_names, names_at, reads_at, onward, reads_of, listed, writes_of, given_of, part_of, parts_at, items_at, array_of}
 use Rattle.descr_table.specs.Form.{size_at, field_at, array_at, call_at, function_at, prebuilt_at, body_at, form_at}
-use Rattle.descr_table.specs.Spelling.{kind_letter, kind_word, kinds_word, result_word, immutable_words, vtable_words, listed_words, SpellsParts, SpellsItems, Spells, IsNameOrNone, IsReadName, IsForm}
+use Rattle.descr_table.specs.Spelling.{kind_letter, kind_word, kinds_word, result_word, listed_words, SpellsParts, SpellsItems, Spells, IsReadName, IsForm}
 
 abbrev Words : Type 0
 Words = List (List ℕ)

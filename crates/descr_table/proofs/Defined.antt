@@ -1,8 +1,8 @@
 -- The names that lines define.
-use Rattle.std.proofs.Common.{◌≡◌, ℕ, zero, suc, ◌+◌, ◌<◌, ◌≤◌, ◌^◌, Bool, true, false, cond, List, [], ◌∷◌, ◌++◌, length, Option, Some, None, refl, sym, ap, ◌∙◌, arith, length-append}
+use Rattle.std.proofs.Common.{◌≡◌, ℕ, suc, ◌+◌, ◌<◌, ◌≤◌, ◌^◌, Bool, true, false, cond, List, [], ◌∷◌, ◌++◌, length, Option, Some, None, sym, ap, ◌∙◌, arith, length-append}
 use Rattle.std.proofs.lemmas.List.{nil_from_length}
 use Rattle.text_lines.specs.Lines.{lines}
-use Rattle.text_lines.specs.Names.{has_name, with_name}
+use Rattle.text_lines.specs.Names.{has_name}
 use Rattle.text_lines.specs.Reading.{said}
 use Rattle.descr_table.specs.Form.{form_at}
 use Rattle.descr_table.specs.Reading.{with_defined, defined_name, defined_behind, defined_in}

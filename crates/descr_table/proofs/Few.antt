@@ -1,12 +1,11 @@
 -- A line adds one row to a list at most.
-use Rattle.std.proofs.Common.{◌≡◌, ℕ, zero, suc, ◌+◌, ◌≤◌, Bool, true, false, List, [], ◌∷◌, ◌++◌, length, Option, Some, None, Result, Ok, Err, refl, ap, subst, arith, length-append}
+use Rattle.std.proofs.Common.{◌≡◌, ℕ, zero, suc, ◌≤◌, List, [], ◌∷◌, ◌++◌, length, Option, Some, None, Ok, refl, ap, subst, arith, length-append}
 use Rattle.text_lines.specs.Reading.{said}
 use Rattle.trace_ops.specs.declared.table.SizeRow.{SizeRow}
 use Rattle.trace_ops.specs.declared.table.Table.{Table}
 use Rattle.descr_table.specs.declared.form.Form.{Form}
 use Rattle.descr_table.specs.declared.form.Form.TheVariants.{Size, Field, Array, Call, Function, Object, Items}
 use Rattle.descr_table.specs.declared.fault.Refusal.{Refusal}
-use Rattle.descr_table.specs.declared.fault.TableFault.{TableFault}
 use Rattle.descr_table.specs.declared.known.Known.{Known}
 use Rattle.descr_table.specs.Known.{names_of}
 use Rattle.descr_table.specs.Form.{form_at}

@@ -1,5 +1,5 @@
 -- The names and bytes behind a line are those of its table.
-use Rattle.std.proofs.Common.{◌≡◌, ℕ, zero, suc, ◌+◌, ◌*◌, ◌≤◌, Bool, true, false, cond, leb, List, [], ◌∷◌, ◌++◌, length, map, Option, Some, None, refl, sym, ap, subst, ◌∙◌, arith, zero-add}
+use Rattle.std.proofs.Common.{◌≡◌, ℕ, zero, suc, ◌+◌, ◌*◌, ◌≤◌, Bool, true, false, cond, leb, List, [], ◌∷◌, ◌++◌, length, map, Option, Some, None, refl, sym, ap, ◌∙◌, arith, zero-add}
 use Rattle.std.specs.Prelude.{◌||◌, sum, slice_get, option_to_list}
 use Rattle.std.specs.List.{flat_map}
 use Rattle.std.proofs.lemmas.Bool.Decides.{nat_tests}
@@ -18,7 +18,7 @@ use Rattle.descr_table.specs.declared.fault.Refusal.{Refusal}
 use Rattle.descr_table.specs.declared.fault.Refusal.TheVariants.{Syntax, Twice, UnknownName, BadInitial, Limit}
 use Rattle.descr_table.specs.declared.known.Known.{Known}
 use Rattle.descr_table.specs.declared.draft.Draft.{Draft}
-use Rattle.descr_table.specs.Known.{names_of, is_named, is_class, is_class_if, repeats}
+use Rattle.descr_table.specs.Known.{names_of, is_named, is_class_if, repeats}
 use Rattle.descr_table.specs.Meaning.{is_misplaced, is_twice, is_unknown, is_bad_initial, or_else, place, with_field, fields_of, row_bytes, bytes_of, form_bytes, over_bytes, limit_at, refusal_at, put_at, put, initial_of, field_initial}
 use Rattle.descr_table.specs.Draft.{table_of, with_name_if, noted, Puts, IsDraft}
 

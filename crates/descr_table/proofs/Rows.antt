@@ -1,5 +1,5 @@
 -- What a line adds, over plain tables.
-use Rattle.std.proofs.Common.{◌≡◌, ℕ, zero, suc, ◌+◌, ◌<◌, ◌≤◌, Bool, true, false, List, [], ◌∷◌, ◌++◌, length, get_or, Option, Some, None, refl, sym, ap, ◌∙◌, arith}
+use Rattle.std.proofs.Common.{◌≡◌, ℕ, zero, suc, ◌<◌, ◌≤◌, List, [], ◌∷◌, ◌++◌, length, get_or, refl, ap, arith}
 use Rattle.std.specs.Prelude.{slice_set}
 use Rattle.trace_ops.specs.declared.table.SizeRow.{SizeRow}
 use Rattle.descr_table.specs.Meaning.{with_field}

@@ -1,5 +1,5 @@
 -- A line that is read is spelled so.
-use Rattle.std.proofs.Common.{◌≡◌, ℕ, ◌<◌, Bool, true, false, cond, eqb, List, [], ◌∷◌, ◌++◌, length, map, Option, Some, None, refl, sym, ap, subst, ◌∙◌, arith, append_assoc, inl, inr, ◌⊎◌}
+use Rattle.std.proofs.Common.{◌≡◌, ℕ, Bool, true, false, cond, eqb, List, [], ◌∷◌, ◌++◌, map, Option, Some, None, refl, sym, ap, subst, ◌∙◌, append_assoc, inl, inr, ◌⊎◌}
 use Rattle.std.specs.Prelude.{codes}
 use Rattle.std.specs.Str.{bytes_eq}
 use Rattle.std.specs.List.{AllByRecursion}
@@ -15,8 +15,8 @@ use Rattle.descr_table.specs.declared.form.Form.TheVariants.{Size, Field, Array,
 use Rattle.descr_table.specs.declared.form.Given.{Given}
 use Rattle.descr_table.specs.declared.form.Part.{Part}
 use Rattle.descr_table.specs.Words.{kind_at, result_at, kind_of_letter, letters_at, some_kinds, kinds_of, some_names, names_at, reads_at, onward, reads_of, listed, writes_of, given_of, part_of, parts_at, items_at, array_of}
-use Rattle.descr_table.specs.Form.{size_rest, size_at, field_rest, field_at, array_at, call_at, function_at, object_at, prebuilt_at, body_at, function_or_prebuilt, form_at}
-use Rattle.descr_table.specs.Spelling.{kind_letter, kind_word, kinds_word, result_word, immutable_words, vtable_words, listed_words, SpellsParts, SpellsItems, Spells, IsNameOrNone, IsReadName, IsForm}
+use Rattle.descr_table.specs.Form.{size_rest, size_at, field_rest, field_at, array_at, call_at, function_at, prebuilt_at, body_at, function_or_prebuilt, form_at}
+use Rattle.descr_table.specs.Spelling.{kind_letter, kind_word, kinds_word, result_word, listed_words, SpellsParts, SpellsItems, Spells, IsReadName, IsForm}
 
 abbrev Words : Type 0
 Words = List (List ℕ)

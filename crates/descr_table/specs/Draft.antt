@@ -1,5 +1,5 @@
 -- The table that a draft stands for.
-use Rattle.std.specs.Prelude.{◌≡◌, ℕ, ◌≤◌, ◌+◌, Option, Some, None, Result, Ok, Err, List, ◌++◌, ◌∷◌, [], length}
+use Rattle.std.specs.Prelude.{◌≡◌, ℕ, ◌≤◌, ◌+◌, Option, Some, None, Result, Ok, Err, List, length}
 use Rattle.text_lines.specs.Names.{with_name}
 use Rattle.trace_ops.specs.declared.table.Table.{Table}
 use Rattle.descr_table.specs.declared.form.Form.{Form}

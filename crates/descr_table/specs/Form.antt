@@ -1,5 +1,5 @@
 -- The forms of the lines of a table, read from their words.
-use Rattle.std.specs.Prelude.{◌≡◌, ℕ, Bool, true, false, Option, Some, None, List, [], ◌∷◌, codes, if◌then◌else◌}
+use Rattle.std.specs.Prelude.{ℕ, true, false, Option, Some, None, List, [], ◌∷◌, codes, if◌then◌else◌}
 use Rattle.std.specs.Str.{bytes_eq}
 use Rattle.text_lines.specs.Reading.{◌>>=◌, word_at, name_at, key_at, ended}
 use Rattle.trace_ops.specs.declared.trace.Kind.{Kind}

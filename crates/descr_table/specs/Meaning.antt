@@ -1,10 +1,9 @@
 -- What the lines of a table mean.
-use Rattle.std.specs.Prelude.{◌≡◌, ℕ, zero, suc, Bool, true, false, ◌||◌, not, Option, Some, None, Result, Ok, Err, List, [], ◌∷◌, ◌++◌, ◌+◌, ◌*◌, ◌==◌, nat_lt, nat_le, pos, length, map, sum, slice_get, unwrap_or, if◌then◌else◌}
+use Rattle.std.specs.Prelude.{ℕ, zero, suc, Bool, true, false, ◌||◌, not, Option, Some, None, List, [], ◌∷◌, ◌++◌, ◌+◌, ◌*◌, ◌==◌, nat_lt, nat_le, pos, length, map, sum, slice_get, unwrap_or, if◌then◌else◌}
 use Rattle.std.specs.Str.{bytes_eq}
 use Rattle.std.specs.List.{list_any}
-use Rattle.text_lines.specs.Lines.{lines}
-use Rattle.text_lines.specs.Names.{has_name, number_of, with_name}
-use Rattle.text_lines.specs.Reading.{said, first_of, read_lines}
+use Rattle.text_lines.specs.Names.{has_name, number_of}
+use Rattle.text_lines.specs.Reading.{first_of}
 use Rattle.trace_ops.specs.declared.trace.Kind.{Kind}
 use Rattle.trace_ops.specs.declared.trace.Kind.TheVariants as kind
 use Rattle.trace_ops.specs.declared.table.ShapeOf.{ShapeOf}

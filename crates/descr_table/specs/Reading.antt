@@ -1,5 +1,5 @@
 -- The table that lines stand for.
-use Rattle.std.specs.Prelude.{◌≡◌, ℕ, Option, Some, None, Result, Ok, Err, List, [], ◌∷◌, length, ◌≤◌}
+use Rattle.std.specs.Prelude.{◌≡◌, ℕ, Option, Some, None, Result, Ok, Err, List, [], ◌∷◌}
 use Rattle.text_lines.specs.Lines.{lines}
 use Rattle.text_lines.specs.Names.{with_name}
 use Rattle.text_lines.specs.Reading.{said, read_lines}

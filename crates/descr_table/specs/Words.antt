@@ -1,9 +1,9 @@
 -- Kinds, lists of names and values, read from the words of a line.
-use Rattle.std.specs.Prelude.{◌≡◌, ℕ, Bool, true, false, ◌&&◌, Option, Some, None, List, [], ◌∷◌, ◌++◌, ◌==◌, codes, if◌then◌else◌}
+use Rattle.std.specs.Prelude.{ℕ, Bool, true, false, Option, Some, None, List, [], ◌∷◌, ◌++◌, ◌==◌, codes, if◌then◌else◌}
 use Rattle.std.specs.Str.{bytes_eq}
 use Rattle.text_lines.specs.Words.{is_name}
 use Rattle.text_lines.specs.Numbers.{integer_of}
-use Rattle.text_lines.specs.Reading.{◌>>=◌, word_at, key_at, ended}
+use Rattle.text_lines.specs.Reading.{◌>>=◌, word_at, ended}
 use Rattle.trace_ops.specs.declared.trace.Kind.{Kind}
 use Rattle.trace_ops.specs.declared.trace.Kind.TheVariants as kind
 use Rattle.descr_table.specs.declared.form.Given.{Given}

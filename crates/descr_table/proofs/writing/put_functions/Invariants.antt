@@ -1,7 +1,6 @@
-use Rattle.std.proofs.Common.{◌≡◌, ◌++◌, ◌∷◌, [], map, take, drop}
+use Rattle.std.proofs.Common.{◌≡◌, ◌++◌, take}
 use Rattle.std.specs.List.{flat_map}
-use Rattle.descr_table.specs.Spelling.{kind_letter}
-use Rattle.descr_table.specs.Writing.{names_text, parts_text, more_items, shape_line, field_line, call_line, function_line, prebuilt_line}
+use Rattle.descr_table.specs.Writing.{function_line}
 use Rattle.descr_table.proofs.writing.put_functions.Given as goal
 
 abbrev pub invariant-loop-name : goal.invariant-loop-name

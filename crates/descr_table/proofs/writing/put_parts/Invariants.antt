@@ -1,7 +1,5 @@
-use Rattle.std.proofs.Common.{◌≡◌, ◌++◌, ◌∷◌, [], map, take, drop}
-use Rattle.std.specs.List.{flat_map}
-use Rattle.descr_table.specs.Spelling.{kind_letter}
-use Rattle.descr_table.specs.Writing.{names_text, parts_text, more_items, shape_line, field_line, call_line, function_line, prebuilt_line}
+use Rattle.std.proofs.Common.{◌≡◌, ◌++◌, drop}
+use Rattle.descr_table.specs.Writing.{parts_text}
 use Rattle.descr_table.proofs.writing.put_parts.Given as goal
 
 abbrev pub invariant-loop-field : goal.invariant-loop-field

@@ -2,3 +2,4 @@ pub mod LineLaws
 pub mod WordLaws
 pub mod Written
 pub mod Digits
+pub mod FirstBadLaws

@@ -29,6 +29,10 @@ key_at key ws = do
   w ← word_at ws
   if bytes_eq w.0 key then Some w.1 else None
 
+abbrev pub is_end : List (List ℕ) → Bool
+is_end [] = true
+is_end (w ∷ ws) = false
+
 -- nothing follows
 abbrev pub ended : {A : Type 0} → A → List (List ℕ) → Option A
 ended x [] = Some x

@@ -1,6 +1,6 @@
 //! Distinct names, found fast.
 
-ghost use Rattle.std.specs.Prelude.{◌≡◌, ◌++◌, ◌∷◌, [], false, OnOk, OnErr};
+ghost use Rattle.std.specs.Prelude.{◌≡◌, ◌<◌, [], length, IfSome, OnOk, OnErr};
 ghost use Rattle.text_lines.specs.Names.{has_name, number_of, with_name};
 
 use indexmap::IndexSet;
@@ -34,7 +34,8 @@ impl Names {
 
     /// The number of a name, counted from 0 in the order of adding.
     pub fn number(&self, name: &Text) -> Option<usize>
-        ensures { result ≡ number_of name.now self.now }
+        ensures value { result ≡ number_of name.now self.now }
+        ensures within { IfSome result (λ n. n < length self.now) }
     {
         self.kept.get_index_of(name)
     }

@@ -1,0 +1,7 @@
+use Rattle.std.proofs.Common.{◌≡◌, ◌++◌, take}
+use Rattle.std.specs.List.{flat_map}
+use Rattle.descr_table.specs.Writing.{call_line}
+use Rattle.descr_table.proofs.writing.put_calls.Given as goal
+
+abbrev pub invariant-loop-row : goal.invariant-loop-row
+invariant-loop-row l = l.out.items ≡ l.fn.out.items ++ flat_map (λ r. call_line l.table r) (take l.row-index l.row-items)

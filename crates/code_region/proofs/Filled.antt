@@ -89,7 +89,7 @@ take-chunk (c ∷ cs) n (suc k) o at most x f l e is within low =
     let past : 65536 + (at - 65536) ≡ at = omega (arith, is) in
     take-chunk cs (n - 65536) k o (at - 65536) most x f.1 (omega (arith, l)) e (omega (arith, is)) (omega (arith, is, within)) low
     ∙ ap (λ (y : List ℕ). take (min most (65536 - o)) y)
-      (ap (λ (y : List ℕ). drop (at - 65536) y) (sym (drop_at c (joined cs) 65536 whole)) ∙ drop-drop (at - 65536) 65536 (c ++ joined cs) ∙ ap (λ (i : ℕ). drop i (c ++ joined cs)) past)
+    (ap (λ (y : List ℕ). drop (at - 65536) y) (sym (drop_at c (joined cs) 65536 whole)) ∙ drop-drop (at - 65536) 65536 (c ++ joined cs) ∙ ap (λ (i : ℕ). drop i (c ++ joined cs)) past)
 
 -- empty chunks at the end change nothing
 joined-empty : (m : ℕ) → joined (replicate m []) ≡ []

@@ -29,9 +29,9 @@ impl Model for Region {
     ghost view = { λ r. record { bytes = joined r.chunks.items; spare = r.spare } };
 
     ghost invariant = { λ r. record {
-        filled : IsFilled r.len r.chunks.items;
-        room : r.len + r.spare ≤ 65536 * length r.chunks.items;
-        few : r.len + r.spare < 2 ^ 32;
+      filled : IsFilled r.len r.chunks.items;
+      room : r.len + r.spare ≤ 65536 * length r.chunks.items;
+      few : r.len + r.spare < 2 ^ 32;
     } };
 }
 

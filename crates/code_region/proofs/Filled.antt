@@ -1,6 +1,6 @@
 -- Chunks that are filled one after another: their bytes, and what one chunk's change makes of them.
-use Rattle.std.proofs.Common.{◌≡◌, ℕ, ◌+◌, ◌-◌, ◌*◌, ◌<◌, ◌≤◌, min, List, [], ◌∷◌, ◌++◌, length, get_or, set, take, drop, replicate, refl, ap, sym, subst, ◌∙◌, ◌⊎◌, inl, inr, suc, zero, arith, length-append, append_assoc}
-use Rattle.std.proofs.lemmas.List.{append-nil, length-drop, length-set, set-append_left, set-append_right, take-append-le, drop-append-le, drop-drop, drop_at, take_min, nil_from_length}
+use Rattle.std.proofs.Common.{◌≡◌, ℕ, ◌+◌, ◌-◌, ◌*◌, ◌<◌, ◌≤◌, min, List, [], ◌∷◌, ◌++◌, length, get_or, set, take, drop, replicate, refl, ap, sym, subst, ◌∙◌, inl, inr, suc, zero, arith, length-append, append_assoc}
+use Rattle.std.proofs.lemmas.List.{append-nil, length-drop, set-append_left, set-append_right, take-append-le, drop-append-le, drop-drop, drop_at, take_min, nil_from_length}
 use Rattle.std.proofs.lemmas.Bool.{cases_lt}
 use Rattle.code_region.specs.Chunks.{joined, IsFilled}
 

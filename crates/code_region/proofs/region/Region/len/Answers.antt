@@ -1,4 +1,4 @@
-use Rattle.std.proofs.Common.{◌≡◌, ◌+◌, length, ap, sym, ◌∙◌, arith}
+use Rattle.std.proofs.Common.{length, ap, sym, ◌∙◌, arith}
 use Rattle.code_region.proofs.Filled.{length-joined}
 use Rattle.code_region.proofs.region.Region.len.Goals as goal
 

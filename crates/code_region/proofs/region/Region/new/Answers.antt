@@ -1,4 +1,4 @@
-use Rattle.std.proofs.Common.{◌≡◌, ℕ, ◌+◌, ◌≤◌, List, [], length, ap, sym, subst, refl, arith}
+use Rattle.std.proofs.Common.{ℕ, List, ap, sym, subst, refl, arith}
 use Rattle.code_region.specs.Chunks.{joined, IsFilled}
 use Rattle.code_region.proofs.region.Region.new.Goals as goal
 

@@ -1,4 +1,4 @@
-use Rattle.std.proofs.Common.{◌≡◌, ℕ, ◌+◌, ◌-◌, ◌*◌, ◌<◌, ◌≤◌, min, List, length, take, drop, refl, ap, sym, ◌∙◌, arith}
+use Rattle.std.proofs.Common.{◌≡◌, ℕ, ◌+◌, ◌-◌, ◌*◌, ◌<◌, min, List, length, take, drop, refl, ap, ◌∙◌, arith}
 use Rattle.code_region.proofs.Filled.{length-joined, length-chunk, fits_chunks, in_chunk, take-chunk}
 use Rattle.code_region.proofs.region.Region.run.Goals as goal
 

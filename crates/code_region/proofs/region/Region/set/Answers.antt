@@ -1,6 +1,6 @@
-use Rattle.std.proofs.Common.{◌≡◌, ℕ, ◌+◌, ◌-◌, ◌*◌, ◌<◌, ◌≤◌, min, List, length, slice_set, ap, sym, subst, ◌∙◌, arith}
+use Rattle.std.proofs.Common.{ℕ, ◌<◌, List, length, slice_set, ap, ◌∙◌, arith}
 use Rattle.std.proofs.lemmas.List.{length-set}
-use Rattle.code_region.specs.Chunks.{joined, IsFilled}
+use Rattle.code_region.specs.Chunks.{joined}
 use Rattle.code_region.proofs.Filled.{length-joined, length-chunk, fits_chunks, in_chunk, filled-same, joined-set}
 use Rattle.code_region.proofs.region.Region.set.Goals as goal
 

@@ -1,0 +1,10 @@
+//! Code bytes in chunks that are never moved, so that growth neither zeroes nor copies them.
+#![tactic(auto)]
+
+mod chunk;
+mod region;
+
+pub use region::Region;
+
+#[cfg(test)]
+mod tests;

@@ -4,6 +4,7 @@ use super::*;
 use std::test::*;
 use trace_ops::{Arg, BoxId, Kind, Pending, Spot, Val};
 
+// The box of an object.
 fn object(number: u32) -> Arg {
     Arg::Of(BoxId {
         kind: Kind::Ref,
@@ -11,6 +12,7 @@ fn object(number: u32) -> Arg {
     })
 }
 
+// A known word.
 fn word(w: i64) -> Val {
     Val::Known(Arg::Const(w))
 }

@@ -8,8 +8,12 @@ mkdir -p "$copy/crates"
 for name in trace_ops text_lines descr_table; do
     cp -r "$here/crates/$name" "$copy/crates/"
 done
-printf 'trace_ops:\ntext_lines: trace_ops indexmap\ndescr_table: trace_ops text_lines indexmap thiserror\nbench_table: descr_table trace_ops\n' > "$copy/crates.txt"
-mkdir -p "$copy/crates/bench_table/src" "$copy/crates/bench_table/specs" "$copy/crates/bench_table/proofs/read_all"
+# the crates with what they stand on today, and the program
+{
+    grep -E '^(trace_ops|text_lines|descr_table):' "$here/crates.txt"
+    echo 'bench_table: descr_table text_lines trace_ops'
+} > "$copy/crates.txt"
+mkdir -p "$copy/crates/bench_table/src" "$copy/crates/bench_table/specs" "$copy/crates/bench_table/proofs/answer"
 touch "$copy/crates/bench_table/specs/Lib.antt" "$copy/crates/bench_table/proofs/Lib.antt"
 cat > "$copy/crates/bench_table/src/main.rt" <<'RT'
 #![tactic(auto)]
@@ -40,7 +44,6 @@ fn main(rt: HostRuntime) -> io::Result<()> {
     println!(rt; "{said} {took} ms")
 }
 RT
-mkdir -p "$copy/crates/bench_table/proofs/answer"
 cat > "$copy/crates/bench_table/proofs/answer/Answers.antt" <<'ANTT'
 use Rattle.std.proofs.Common.{arith}
 use Rattle.text_lines.proofs.LineLaws.{length-lines}
@@ -49,8 +52,6 @@ use Rattle.bench_table.proofs.answer.Goals as goal
 pub read_table-requires : goal.read_table-requires
 read_table-requires c = omega (arith, length-lines c.args.text.now)
 ANTT
-rmdir "$copy/crates/bench_table/proofs/read_all"
-sed -i 's/^bench_table: .*/bench_table: descr_table text_lines trace_ops/' "$copy/crates.txt"
 python3 -c "
 import sys
 for s in range(1024):
@@ -60,10 +61,9 @@ for s in range(1024):
 " > "$copy/table.txt"
 python3 -c "print(('# ' + 'x' * 61 + '\n') * (16 * 1024 * 1024 // 64), end='')" > "$copy/comments.txt"
 cd "$copy/crates/bench_table"
-cp "$copy/table.txt" stdin; : > stdout
-rt run > "$copy/first" 2>&1 || cat "$copy/first"
-program=$(find out -type f -perm -u+x -name '*bench_table*' | head -1)
+cp "$copy/table.txt" stdin
+rt run > "$copy/log" 2>&1 || { cat "$copy/log" >&2; exit 1; }
 for input in table comments; do
     printf '%s %s bytes: ' "$input" "$(wc -c < "$copy/$input.txt")"
-    if [ -n "$program" ]; then "$program" < "$copy/$input.txt"; else cp "$copy/$input.txt" stdin; rt run 2>/dev/null | tail -2; fi
+    out/bench_table < "$copy/$input.txt"
 done

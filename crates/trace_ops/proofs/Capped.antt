@@ -1,5 +1,5 @@
 -- Sums that stop at 2^64 - 1.
-use Rattle.std.proofs.Common.{◌≡◌, ℕ, zero, suc, ◌+◌, ◌-◌, ◌≤◌, ◌<◌, ◌^◌, min, Option, Some, None, List, [], ◌∷◌, refl, arith, ap, sym, ◌∙◌, subst}
+use Rattle.std.proofs.Common.{◌≡◌, ℕ, zero, suc, ◌+◌, ◌-◌, ◌<◌, Option, Some, None, refl, arith, ap, ◌∙◌}
 use Rattle.std.specs.Option.{IfSome}
 use Rattle.trace_ops.specs.Weights.{capped, along, sum_below}
 

@@ -1,6 +1,6 @@
 -- What the derived `==` says: that the two values are equal.
-use Rattle.std.proofs.Common.{◌≡◌, ℕ, ℤ, Bool, true, Option, Some, None, List, refl, ap, subst, ◌∙◌}
-use Rattle.std.specs.Bool.{Decides}
+use Rattle.std.proofs.Common.{◌≡◌, ℕ, Bool, true, false, sym, Option, Some, None, List, refl, ap, subst}
+use Rattle.std.specs.Bool.{Decides, beq}
 use Rattle.std.specs.Option.{option_eq}
 use Rattle.std.specs.Ordering.{int_eq}
 use Rattle.std.specs.Cmp.Lexicographic.{pointwise, pointwise_decides, bytes_decides}
@@ -79,6 +79,45 @@ use Rattle.trace_ops.specs.contracts.piece.FactEq.TheImpl.Laws as fact_laws
 use Rattle.trace_ops.specs.declared.piece.Entry.{Entry}
 use Rattle.trace_ops.specs.contracts.piece.EntryPartialEq.TheImpl as entry_eq
 use Rattle.trace_ops.specs.contracts.piece.EntryEq.TheImpl.Laws as entry_laws
+use Rattle.trace_ops.specs.declared.trace.Origin.{Origin}
+use Rattle.trace_ops.specs.declared.trace.Origin.TheVariants as origin
+use Rattle.trace_ops.specs.contracts.trace.OriginPartialEq.TheImpl as origin_eq
+use Rattle.trace_ops.specs.contracts.trace.OriginEq.TheImpl.Laws as origin_laws
+use Rattle.trace_ops.specs.declared.trace.Trace.{Trace}
+use Rattle.trace_ops.specs.contracts.trace.TracePartialEq.TheImpl as trace_eq
+use Rattle.trace_ops.specs.contracts.trace.TraceEq.TheImpl.Laws as trace_laws
+use Rattle.trace_ops.specs.declared.trace.TraceSet.{TraceSet}
+use Rattle.trace_ops.specs.contracts.trace.TraceSetPartialEq.TheImpl as trace_set_eq
+use Rattle.trace_ops.specs.contracts.trace.TraceSetEq.TheImpl.Laws as trace_set_laws
+use Rattle.trace_ops.specs.declared.table.What.{What}
+use Rattle.trace_ops.specs.contracts.table.WhatPartialEq.TheImpl as what_eq
+use Rattle.trace_ops.specs.contracts.table.WhatEq.TheImpl.Laws as what_laws
+use Rattle.trace_ops.specs.contracts.table.What.{the_type as what_type}
+use Rattle.trace_ops.specs.declared.table.SizeRow.{SizeRow}
+use Rattle.trace_ops.specs.contracts.table.SizeRowPartialEq.TheImpl as size_row_eq
+use Rattle.trace_ops.specs.contracts.table.SizeRowEq.TheImpl.Laws as size_row_laws
+use Rattle.trace_ops.specs.declared.table.FieldRow.{FieldRow}
+use Rattle.trace_ops.specs.contracts.table.FieldRowPartialEq.TheImpl as field_row_eq
+use Rattle.trace_ops.specs.contracts.table.FieldRowEq.TheImpl.Laws as field_row_laws
+use Rattle.trace_ops.specs.declared.table.ArrayRow.{ArrayRow}
+use Rattle.trace_ops.specs.contracts.table.ArrayRowPartialEq.TheImpl as array_row_eq
+use Rattle.trace_ops.specs.contracts.table.ArrayRowEq.TheImpl.Laws as array_row_laws
+use Rattle.trace_ops.specs.declared.table.CallRow.{CallRow}
+use Rattle.trace_ops.specs.contracts.table.CallRowPartialEq.TheImpl as call_row_eq
+use Rattle.trace_ops.specs.contracts.table.CallRowEq.TheImpl.Laws as call_row_laws
+use Rattle.trace_ops.specs.declared.table.Initial.{Initial}
+use Rattle.trace_ops.specs.declared.table.Initial.TheVariants as initial
+use Rattle.trace_ops.specs.contracts.table.InitialPartialEq.TheImpl as initial_eq
+use Rattle.trace_ops.specs.contracts.table.InitialEq.TheImpl.Laws as initial_laws
+use Rattle.trace_ops.specs.declared.table.PrebuiltRow.{PrebuiltRow}
+use Rattle.trace_ops.specs.contracts.table.PrebuiltRowPartialEq.TheImpl as prebuilt_row_eq
+use Rattle.trace_ops.specs.contracts.table.PrebuiltRowEq.TheImpl.Laws as prebuilt_row_laws
+use Rattle.trace_ops.specs.declared.table.Table.{Table}
+use Rattle.trace_ops.specs.contracts.table.TablePartialEq.TheImpl as table_eq
+use Rattle.trace_ops.specs.contracts.table.TableEq.TheImpl.Laws as table_laws
+use Rattle.trace_ops.specs.declared.piece.OptTrace.{OptTrace}
+use Rattle.trace_ops.specs.contracts.piece.OptTracePartialEq.TheImpl as opt_trace_eq
+use Rattle.trace_ops.specs.contracts.piece.OptTraceEq.TheImpl.Laws as opt_trace_laws
 
 -- a test that finds only equal values equal, and each equal to itself
 told : {A : Type 0} (E : A → A → Bool) → ((a b : A) → E a b ≡ true → a ≡ b) → ((a : A) → E a a ≡ true) → (a b : A) → Decides (E a b) (a ≡ b)
@@ -95,6 +134,12 @@ option_decides {A} {E} each = told (option_eq E) same own
     own : (a : Option A) → option_eq E a a ≡ true
     own (Some a) = (each a a).1 refl
     own None = refl
+
+bool_decides : (a b : Bool) → Decides (beq a b) (a ≡ b)
+bool_decides true true = (λ e. refl, λ e. refl)
+bool_decides true false = (λ e. sym e, λ e. sym e)
+bool_decides false true = (λ e. e, λ e. e)
+bool_decides false false = (λ e. refl, λ e. refl)
 
 code_same : (a b : OpCode) → code_eq.ghosts.eq a b ≡ true → a ≡ b
 code_same a b h = same_true code_type tt a b h
@@ -302,3 +347,114 @@ entry_same a b h =
 
 pub entry_decides : (a b : Entry) → Decides (entry_eq.ghosts.eq a b) (a ≡ b)
 entry_decides = told entry_eq.ghosts.eq entry_same entry_laws.lawful.laws.refl
+
+what_same : (a b : What) → what_eq.ghosts.eq a b ≡ true → a ≡ b
+what_same a b h = same_true what_type tt a b h
+
+pub what_decides : (a b : What) → Decides (what_eq.ghosts.eq a b) (a ≡ b)
+what_decides = told what_eq.ghosts.eq what_same what_laws.lawful.laws.refl
+
+origin_same : (a b : Origin) → origin_eq.ghosts.eq a b ≡ true → a ≡ b
+origin_same origin.Loop origin.Loop h = refl
+origin_same (origin.Bridge a0 a1) (origin.Bridge b0 b1) h =
+    let p0 = and_parts (text_eq.ghosts.eq a0 b0) _ h in
+    λ i. origin.Bridge ((text_decides a0 b0).0 p0.0 i) ((Decides-eqb a1 b1).0 p0.1 i)
+origin_same _ _ h = cc
+
+pub origin_decides : (a b : Origin) → Decides (origin_eq.ghosts.eq a b) (a ≡ b)
+origin_decides = told origin_eq.ghosts.eq origin_same origin_laws.lawful.laws.refl
+
+initial_same : (a b : Initial) → initial_eq.ghosts.eq a b ≡ true → a ≡ b
+initial_same (initial.Int a0) (initial.Int b0) h = λ i. initial.Int ((Decides-int_eq a0 b0).0 h i)
+initial_same initial.Null initial.Null h = refl
+initial_same (initial.Ptr a0) (initial.Ptr b0) h = λ i. initial.Ptr ((Decides-eqb a0 b0).0 h i)
+initial_same _ _ h = cc
+
+pub initial_decides : (a b : Initial) → Decides (initial_eq.ghosts.eq a b) (a ≡ b)
+initial_decides = told initial_eq.ghosts.eq initial_same initial_laws.lawful.laws.refl
+
+trace_same : (a b : Trace) → trace_eq.ghosts.eq a b ≡ true → a ≡ b
+trace_same a b h =
+    let p0 = and_parts (text_eq.ghosts.eq a.name b.name) _ h in
+    let p1 = and_parts (origin_eq.ghosts.eq a.origin b.origin) _ p0.1 in
+    let p2 = and_parts (beq a.label b.label) _ p1.1 in
+    let p3 = and_parts (pointwise box_eq.ghosts.eq a.inputs b.inputs) _ p2.1 in
+    λ i. record { name = (text_decides a.name b.name).0 p0.0 i; origin = (origin_decides a.origin b.origin).0 p1.0 i; label = (bool_decides a.label b.label).0 p2.0 i; inputs = (pointwise_decides box_decides a.inputs b.inputs).0 p3.0 i; ops = (pointwise_decides op_decides a.ops b.ops).0 p3.1 i }
+
+pub trace_decides : (a b : Trace) → Decides (trace_eq.ghosts.eq a b) (a ≡ b)
+trace_decides = told trace_eq.ghosts.eq trace_same trace_laws.lawful.laws.refl
+
+size_row_same : (a b : SizeRow) → size_row_eq.ghosts.eq a b ≡ true → a ≡ b
+size_row_same a b h =
+    let p0 = and_parts (text_eq.ghosts.eq a.name b.name) _ h in
+    let p1 = and_parts (option_eq text_eq.ghosts.eq a.vtable b.vtable) _ p0.1 in
+    λ i. record { name = (text_decides a.name b.name).0 p0.0 i; vtable = (option_decides text_decides a.vtable b.vtable).0 p1.0 i; fields = (pointwise_decides Decides-eqb a.fields b.fields).0 p1.1 i }
+
+pub size_row_decides : (a b : SizeRow) → Decides (size_row_eq.ghosts.eq a b) (a ≡ b)
+size_row_decides = told size_row_eq.ghosts.eq size_row_same size_row_laws.lawful.laws.refl
+
+field_row_same : (a b : FieldRow) → field_row_eq.ghosts.eq a b ≡ true → a ≡ b
+field_row_same a b h =
+    let p0 = and_parts (text_eq.ghosts.eq a.name b.name) _ h in
+    let p1 = and_parts (eqb a.size b.size) _ p0.1 in
+    let p2 = and_parts (kind_eq.ghosts.eq a.kind b.kind) _ p1.1 in
+    λ i. record { name = (text_decides a.name b.name).0 p0.0 i; size = (Decides-eqb a.size b.size).0 p1.0 i; kind = (kind_decides a.kind b.kind).0 p2.0 i; immutable = (bool_decides a.immutable b.immutable).0 p2.1 i }
+
+pub field_row_decides : (a b : FieldRow) → Decides (field_row_eq.ghosts.eq a b) (a ≡ b)
+field_row_decides = told field_row_eq.ghosts.eq field_row_same field_row_laws.lawful.laws.refl
+
+array_row_same : (a b : ArrayRow) → array_row_eq.ghosts.eq a b ≡ true → a ≡ b
+array_row_same a b h =
+    let p0 = and_parts (text_eq.ghosts.eq a.name b.name) _ h in
+    λ i. record { name = (text_decides a.name b.name).0 p0.0 i; kind = (kind_decides a.kind b.kind).0 p0.1 i }
+
+pub array_row_decides : (a b : ArrayRow) → Decides (array_row_eq.ghosts.eq a b) (a ≡ b)
+array_row_decides = told array_row_eq.ghosts.eq array_row_same array_row_laws.lawful.laws.refl
+
+call_row_same : (a b : CallRow) → call_row_eq.ghosts.eq a b ≡ true → a ≡ b
+call_row_same a b h =
+    let p0 = and_parts (text_eq.ghosts.eq a.name b.name) _ h in
+    let p1 = and_parts (pointwise kind_eq.ghosts.eq a.args b.args) _ p0.1 in
+    let p2 = and_parts (option_eq kind_eq.ghosts.eq a.result b.result) _ p1.1 in
+    let p3 = and_parts (pointwise eqb a.reads b.reads) _ p2.1 in
+    λ i. record { name = (text_decides a.name b.name).0 p0.0 i; args = (pointwise_decides kind_decides a.args b.args).0 p1.0 i; result = (option_decides kind_decides a.result b.result).0 p2.0 i; reads = (pointwise_decides Decides-eqb a.reads b.reads).0 p3.0 i; writes = (pointwise_decides Decides-eqb a.writes b.writes).0 p3.1 i }
+
+pub call_row_decides : (a b : CallRow) → Decides (call_row_eq.ghosts.eq a b) (a ≡ b)
+call_row_decides = told call_row_eq.ghosts.eq call_row_same call_row_laws.lawful.laws.refl
+
+prebuilt_row_same : (a b : PrebuiltRow) → prebuilt_row_eq.ghosts.eq a b ≡ true → a ≡ b
+prebuilt_row_same a b h =
+    let p0 = and_parts (text_eq.ghosts.eq a.name b.name) _ h in
+    let p1 = and_parts (shape_of_eq.ghosts.eq a.of b.of) _ p0.1 in
+    λ i. record { name = (text_decides a.name b.name).0 p0.0 i; of = (shape_of_decides a.of b.of).0 p1.0 i; parts = (pointwise_decides initial_decides a.parts b.parts).0 p1.1 i }
+
+pub prebuilt_row_decides : (a b : PrebuiltRow) → Decides (prebuilt_row_eq.ghosts.eq a b) (a ≡ b)
+prebuilt_row_decides = told prebuilt_row_eq.ghosts.eq prebuilt_row_same prebuilt_row_laws.lawful.laws.refl
+
+table_same : (a b : Table) → table_eq.ghosts.eq a b ≡ true → a ≡ b
+table_same a b h =
+    let p0 = and_parts (pointwise shape_of_eq.ghosts.eq a.shapes b.shapes) _ h in
+    let p1 = and_parts (pointwise size_row_eq.ghosts.eq a.sizes b.sizes) _ p0.1 in
+    let p2 = and_parts (pointwise field_row_eq.ghosts.eq a.fields b.fields) _ p1.1 in
+    let p3 = and_parts (pointwise array_row_eq.ghosts.eq a.arrays b.arrays) _ p2.1 in
+    let p4 = and_parts (pointwise call_row_eq.ghosts.eq a.calls b.calls) _ p3.1 in
+    let p5 = and_parts (pointwise text_eq.ghosts.eq a.functions b.functions) _ p4.1 in
+    λ i. record { shapes = (pointwise_decides shape_of_decides a.shapes b.shapes).0 p0.0 i; sizes = (pointwise_decides size_row_decides a.sizes b.sizes).0 p1.0 i; fields = (pointwise_decides field_row_decides a.fields b.fields).0 p2.0 i; arrays = (pointwise_decides array_row_decides a.arrays b.arrays).0 p3.0 i; calls = (pointwise_decides call_row_decides a.calls b.calls).0 p4.0 i; functions = (pointwise_decides text_decides a.functions b.functions).0 p5.0 i; prebuilts = (pointwise_decides prebuilt_row_decides a.prebuilts b.prebuilts).0 p5.1 i }
+
+pub table_decides : (a b : Table) → Decides (table_eq.ghosts.eq a b) (a ≡ b)
+table_decides = told table_eq.ghosts.eq table_same table_laws.lawful.laws.refl
+
+trace_set_same : (a b : TraceSet) → trace_set_eq.ghosts.eq a b ≡ true → a ≡ b
+trace_set_same a b h =
+    let p0 = and_parts (table_eq.ghosts.eq a.table b.table) _ h in
+    λ i. record { table = (table_decides a.table b.table).0 p0.0 i; traces = (pointwise_decides trace_decides a.traces b.traces).0 p0.1 i }
+
+pub trace_set_decides : (a b : TraceSet) → Decides (trace_set_eq.ghosts.eq a b) (a ≡ b)
+trace_set_decides = told trace_set_eq.ghosts.eq trace_set_same trace_set_laws.lawful.laws.refl
+
+opt_trace_same : (a b : OptTrace) → opt_trace_eq.ghosts.eq a b ≡ true → a ≡ b
+opt_trace_same a b h =
+    λ i. record { pieces = (pointwise_decides piece_decides a.pieces b.pieces).0 h i }
+
+pub opt_trace_decides : (a b : OptTrace) → Decides (opt_trace_eq.ghosts.eq a b) (a ≡ b)
+opt_trace_decides = told opt_trace_eq.ghosts.eq opt_trace_same opt_trace_laws.lawful.laws.refl

@@ -1,5 +1,5 @@
 -- A shift to the left is a product with a power of two.
-use Rattle.std.proofs.Common.{◌≡◌, ℕ, ℤ, pos, ◌+◌, ◌*◌, ◌*ℤ◌, ◌%◌, ◌^◌, ◌<◌, refl, ap, sym, ◌∙◌, arith, rules, FitsSigned}
+use Rattle.std.proofs.Common.{◌≡◌, ℕ, ℤ, pos, ◌*◌, ◌*ℤ◌, ◌%◌, ◌^◌, ◌<◌, ap, sym, ◌∙◌, rules, FitsSigned}
 use Rattle.std.specs.Int.{int_wrap, w64, cast_signed, cast_unsigned}
 use Rattle.std.proofs.Math.Nat.{mod-eq_of_lt}
 use Rattle.std.proofs.lemmas.Nat.{pow_below}

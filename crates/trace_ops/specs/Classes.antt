@@ -1,6 +1,5 @@
 -- Kinds of operations, from what is known of each.
-use Rattle.std.specs.Prelude.{Bool, true, false, Option}
-use Rattle.trace_ops.specs.declared.trace.Kind.{Kind}
+use Rattle.std.specs.Prelude.{Bool, true, false}
 use Rattle.trace_ops.specs.declared.code.OpCode.{OpCode}
 use Rattle.trace_ops.specs.declared.code.OpCode.TheVariants as code
 use Rattle.trace_ops.specs.declared.facts.Takes.{Takes}

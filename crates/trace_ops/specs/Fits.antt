@@ -1,5 +1,5 @@
 -- Which arguments, results and descrs fit an operation.
-use Rattle.std.specs.Prelude.{◌≡◌, ℕ, ◌<◌, ◌≤◌, Bool, true, false, Option, Some, None, List, [], ◌∷◌, length, map, slice_get, IsSome}
+use Rattle.std.specs.Prelude.{◌≡◌, ◌<◌, Bool, true, false, Option, Some, None, List, [], ◌∷◌, length, map, slice_get, IsSome}
 use Rattle.std.specs.Option.{option_map, IsSomeAnd}
 use Rattle.trace_ops.specs.declared.code.OpCode.{OpCode}
 use Rattle.trace_ops.specs.declared.trace.Kind.{Kind}

@@ -1,11 +1,8 @@
 -- What holds of each entry.
-use Rattle.std.specs.Prelude.{◌≡◌, ℕ, ◌<◌, ◌≤◌, ◌≤ℤ◌, ℤ, Option, Some, None, List, [], ◌∷◌, ◌++◌, length, map, IsTrue}
+use Rattle.std.specs.Prelude.{◌≡◌, ℕ, ◌<◌, ◌≤◌, ◌≤ℤ◌, Some, List, [], ◌∷◌, ◌++◌, length, map, IsTrue}
 use Rattle.std.specs.List.{All, Contains, flat_map}
-use Rattle.trace_ops.specs.declared.code.OpCode.{OpCode}
-use Rattle.trace_ops.specs.declared.trace.Kind.{Kind}
 use Rattle.trace_ops.specs.declared.trace.Kind.TheVariants as kind
 use Rattle.trace_ops.specs.declared.trace.BoxId.{BoxId}
-use Rattle.trace_ops.specs.declared.trace.Arg.{Arg}
 use Rattle.trace_ops.specs.declared.trace.Descr.TheVariants as descr
 use Rattle.trace_ops.specs.declared.trace.TraceSet.{TraceSet}
 use Rattle.trace_ops.specs.declared.table.Table.{Table}
@@ -14,7 +11,6 @@ use Rattle.trace_ops.specs.declared.table.ShapeOf.TheVariants as shape
 use Rattle.trace_ops.specs.declared.piece.Val.{Val}
 use Rattle.trace_ops.specs.declared.piece.Val.TheVariants.{Known, Virtual}
 use Rattle.trace_ops.specs.declared.piece.Shape.{Shape}
-use Rattle.trace_ops.specs.declared.piece.Spot.{Spot}
 use Rattle.trace_ops.specs.declared.piece.Pending.{Pending}
 use Rattle.trace_ops.specs.declared.piece.Fact.{Fact}
 use Rattle.trace_ops.specs.declared.piece.Fact.TheVariants as fact
@@ -22,7 +18,7 @@ use Rattle.trace_ops.specs.declared.piece.Entry.{Entry}
 use Rattle.trace_ops.specs.Facts.{takes_of, gives_of}
 use Rattle.trace_ops.specs.Classes.{is_pure}
 use Rattle.trace_ops.specs.Parts.{boxes_of_arg, boxes_of_val, boxes_of_shape, boxes_of_pending}
-use Rattle.trace_ops.specs.Kinds.{kind_of_arg, kind_of_val, kind_of_spot, HasParts, NamesShape, NamesClass, NamesArg, NamesVal, NamesSpot}
+use Rattle.trace_ops.specs.Kinds.{kind_of_arg, kind_of_val, kind_of_spot, HasParts, NamesClass, NamesArg, NamesVal, NamesSpot}
 use Rattle.trace_ops.specs.Fits.{FitArgs}
 
 -- no box twice

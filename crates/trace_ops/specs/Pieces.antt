@@ -1,5 +1,5 @@
 -- The operations of a piece, and what each of them defines, uses and needs.
-use Rattle.std.specs.Prelude.{◌≡◌, ℕ, suc, ◌+◌, ◌<◌, ◌≤◌, Bool, true, false, ℤ, Option, Some, None, List, [], ◌∷◌, ◌++◌, length, map, take, slice_get, IsTrue, IsSome}
+use Rattle.std.specs.Prelude.{◌≡◌, ℕ, ◌+◌, Bool, true, false, Option, Some, None, List, [], ◌∷◌, ◌++◌, length, map, take, slice_get, IsTrue, IsSome}
 use Rattle.std.specs.Option.{option_map, IsSomeAnd}
 use Rattle.std.specs.List.{All, flat_map, sum_by}
 use Rattle.trace_ops.specs.declared.trace.BoxId.{BoxId}

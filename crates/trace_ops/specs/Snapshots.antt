@@ -1,7 +1,6 @@
 -- What holds of each snapshot of a piece.
-use Rattle.std.specs.Prelude.{◌≡◌, ℕ, suc, ◌+◌, ◌<◌, ◌≤◌, Bool, Option, Some, None, List, [], ◌∷◌, ◌++◌, length, drop, nat_eq, nat_lt, if◌then◌else◌, IsSome}
+use Rattle.std.specs.Prelude.{◌≡◌, ℕ, ◌+◌, ◌<◌, Option, Some, None, List, [], ◌∷◌, length, drop, nat_eq, nat_lt, if◌then◌else◌, IsSome}
 use Rattle.std.specs.List.{All, flat_map}
-use Rattle.trace_ops.specs.declared.trace.Arg.{Arg}
 use Rattle.trace_ops.specs.declared.table.Table.{Table}
 use Rattle.trace_ops.specs.declared.piece.Val.{Val}
 use Rattle.trace_ops.specs.declared.piece.Val.TheVariants.{Known, Virtual}
@@ -10,7 +9,7 @@ use Rattle.trace_ops.specs.declared.piece.OptFrame.{OptFrame}
 use Rattle.trace_ops.specs.declared.piece.Pending.{Pending}
 use Rattle.trace_ops.specs.declared.piece.Snapshot.{Snapshot}
 use Rattle.trace_ops.specs.Kinds.{kind_of_arg, kind_of_val}
-use Rattle.trace_ops.specs.Lawful.{IsNumbered, IsShapeLawful, IsPendingLawful}
+use Rattle.trace_ops.specs.Lawful.{IsNumbered, IsShapeLawful}
 
 abbrev pub and_then : Option ℕ → (ℕ → Option ℕ) → Option ℕ
 and_then None f = None

@@ -1,5 +1,5 @@
 -- How much a set of traces weighs.
-use Rattle.std.specs.Prelude.{ℕ, zero, suc, ◌+◌, ◌-◌, ◌^◌, min, ℤ, pos, negsuc, Option, Some, None, List, [], ◌∷◌, length, nat_lt, nat_eq, if◌then◌else◌, slice_get, slice_index_or, position, sum_by}
+use Rattle.std.specs.Prelude.{ℕ, zero, suc, ◌+◌, ◌-◌, ◌^◌, min, pos, Option, Some, None, List, length, nat_lt, if◌then◌else◌, slice_get, position, sum_by}
 use Rattle.std.specs.Str.{bytes_eq}
 use Rattle.trace_ops.specs.declared.code.OpCode.{OpCode}
 use Rattle.trace_ops.specs.declared.code.OpCode.TheVariants as code

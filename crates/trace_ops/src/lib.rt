@@ -4,6 +4,7 @@
 mod classes;
 mod code;
 mod copies;
+mod equality;
 mod facts;
 mod folds;
 mod list;
@@ -16,30 +17,123 @@ mod trace;
 mod weights;
 mod word;
 
-pub use classes::{
-    is_allocation, is_call, is_guard, is_overflowing, is_plain, is_pure, reads_overflow,
-};
+pub use classes::is_allocation;
+pub use classes::is_call;
+pub use classes::is_guard;
+pub use classes::is_overflowing;
+pub use classes::is_plain;
+pub use classes::is_pure;
+pub use classes::reads_overflow;
 pub use code::OpCode;
 pub use copies::CopyIn;
-pub use facts::{Cites, Part, Takes, Want, cites_of, gives_of, part_of, takes_of};
+pub use equality::same_arg;
+pub use equality::same_array_row;
+pub use equality::same_box;
+pub use equality::same_call_row;
+pub use equality::same_code;
+pub use equality::same_descr;
+pub use equality::same_entry;
+pub use equality::same_fact;
+pub use equality::same_field_row;
+pub use equality::same_frame;
+pub use equality::same_half;
+pub use equality::same_initial;
+pub use equality::same_kind;
+pub use equality::same_op;
+pub use equality::same_opt_frame;
+pub use equality::same_opt_op;
+pub use equality::same_opt_trace;
+pub use equality::same_origin;
+pub use equality::same_pending;
+pub use equality::same_piece;
+pub use equality::same_piece_id;
+pub use equality::same_prebuilt_row;
+pub use equality::same_shape;
+pub use equality::same_shape_of;
+pub use equality::same_size_row;
+pub use equality::same_snapshot;
+pub use equality::same_spot;
+pub use equality::same_table;
+pub use equality::same_text;
+pub use equality::same_trace;
+pub use equality::same_trace_set;
+pub use equality::same_val;
+pub use equality::same_what;
+pub use facts::Cites;
+pub use facts::Part;
+pub use facts::Takes;
+pub use facts::Want;
+pub use facts::cites_of;
+pub use facts::gives_of;
+pub use facts::part_of;
+pub use facts::takes_of;
 pub use folds::fold;
 pub use list::List;
-pub use op_names::{code_of, name_of};
-pub use piece::{
-    Entry, Fact, Half, OptFrame, OptOp, OptTrace, Pending, Piece, PieceId, Shape, Snapshot, Spot,
-    Val,
-};
+pub use op_names::code_of;
+pub use op_names::name_of;
+pub use piece::Entry;
+pub use piece::Fact;
+pub use piece::Half;
+pub use piece::OptFrame;
+pub use piece::OptOp;
+pub use piece::OptTrace;
+pub use piece::Pending;
+pub use piece::Piece;
+pub use piece::PieceId;
+pub use piece::Shape;
+pub use piece::Snapshot;
+pub use piece::Spot;
+pub use piece::Val;
 pub use snapshot_boxes::parts;
-pub use table::{ArrayRow, CallRow, FieldRow, Initial, PrebuiltRow, ShapeOf, SizeRow, Table, What};
+pub use table::ArrayRow;
+pub use table::CallRow;
+pub use table::FieldRow;
+pub use table::Initial;
+pub use table::PrebuiltRow;
+pub use table::ShapeOf;
+pub use table::SizeRow;
+pub use table::Table;
+pub use table::What;
 pub use text::Text;
-pub use trace::{Arg, BoxId, Descr, Frame, Kind, Op, Origin, Trace, TraceSet};
+pub use trace::Arg;
+pub use trace::BoxId;
+pub use trace::Descr;
+pub use trace::Frame;
+pub use trace::Kind;
+pub use trace::Op;
+pub use trace::Origin;
+pub use trace::Trace;
+pub use trace::TraceSet;
 pub use weights::weight;
-pub use word::{
-    Word, add_overflows, force_ge_zero, invert, is_true, is_zero, mul_overflows, same_as,
-    sub_overflows, unsigned_ge, unsigned_gt, unsigned_le, unsigned_lt, word_eq, word_ge, word_gt,
-    word_le, word_lt, word_ne, wrap_add, wrap_and, wrap_lshift, wrap_mul, wrap_neg, wrap_or,
-    wrap_rshift, wrap_sub, wrap_unsigned_rshift, wrap_xor,
-};
+pub use word::Word;
+pub use word::add_overflows;
+pub use word::force_ge_zero;
+pub use word::invert;
+pub use word::is_true;
+pub use word::is_zero;
+pub use word::mul_overflows;
+pub use word::same_as;
+pub use word::sub_overflows;
+pub use word::unsigned_ge;
+pub use word::unsigned_gt;
+pub use word::unsigned_le;
+pub use word::unsigned_lt;
+pub use word::word_eq;
+pub use word::word_ge;
+pub use word::word_gt;
+pub use word::word_le;
+pub use word::word_lt;
+pub use word::word_ne;
+pub use word::wrap_add;
+pub use word::wrap_and;
+pub use word::wrap_lshift;
+pub use word::wrap_mul;
+pub use word::wrap_neg;
+pub use word::wrap_or;
+pub use word::wrap_rshift;
+pub use word::wrap_sub;
+pub use word::wrap_unsigned_rshift;
+pub use word::wrap_xor;
 
 #[cfg(test)]
 mod tests;

@@ -1,7 +1,7 @@
 ghost use Rattle.std.specs.Prelude.{◌≡◌, IfOk};
 
 use crate::{Arg, BoxId, CopyIn, Descr, List, OpCode, ShapeOf, Text, Word};
-use std::alloc::{AllocError, Global};
+use std::alloc::AllocError;
 
 /// What a slot, a part or a spot holds: an argument, or a virtual object by its number.
 #[derive(Clone, Copy, Debug, PartialEq, Eq, Hash)]
@@ -121,26 +121,26 @@ pub struct Entry {
 
 impl Shape {
     /// An equal shape.
-    pub fn copy(&self, alloc: Global) -> Result<Shape, AllocError>
+    pub fn copy(&self) -> Result<Shape, AllocError>
         ensures { IfOk result (λ c. c ≡ self.now) }
     {
-        let parts = self.parts.copy(alloc)?;
+        let parts = self.parts.copy()?;
         Ok(Shape { of: self.of, parts })
     }
 }
 
 impl CopyIn for Shape {
-    fn copy_in(&self, alloc: Global) -> Result<Self, AllocError> {
-        self.copy(alloc)
+    fn copy_in(&self) -> Result<Self, AllocError> {
+        self.copy()
     }
 }
 
 impl OptFrame {
     /// An equal frame.
-    pub fn copy(&self, alloc: Global) -> Result<OptFrame, AllocError>
+    pub fn copy(&self) -> Result<OptFrame, AllocError>
         ensures { IfOk result (λ c. c ≡ self.now) }
     {
-        let slots = self.slots.copy(alloc)?;
+        let slots = self.slots.copy()?;
         Ok(OptFrame {
             name: self.name,
             pc: self.pc,
@@ -150,19 +150,19 @@ impl OptFrame {
 }
 
 impl CopyIn for OptFrame {
-    fn copy_in(&self, alloc: Global) -> Result<Self, AllocError> {
-        self.copy(alloc)
+    fn copy_in(&self) -> Result<Self, AllocError> {
+        self.copy()
     }
 }
 
 impl Snapshot {
     /// An equal snapshot.
-    pub fn copy(&self, alloc: Global) -> Result<Snapshot, AllocError>
+    pub fn copy(&self) -> Result<Snapshot, AllocError>
         ensures { IfOk result (λ c. c ≡ self.now) }
     {
-        let frames = self.frames.copy_each(alloc)?;
-        let shapes = self.shapes.copy_each(alloc)?;
-        let pending = self.pending.copy(alloc)?;
+        let frames = self.frames.copy_each()?;
+        let shapes = self.shapes.copy_each()?;
+        let pending = self.pending.copy()?;
         Ok(Snapshot {
             frames,
             shapes,
@@ -173,7 +173,7 @@ impl Snapshot {
 
 impl OptOp {
     /// An equal operation.
-    pub fn copy(&self, alloc: Global) -> Result<OptOp, AllocError>
+    pub fn copy(&self) -> Result<OptOp, AllocError>
         ensures { IfOk result (λ c. c ≡ self.now) }
     {
         match self {
@@ -183,7 +183,7 @@ impl OptOp {
                 args,
                 descr,
             } => {
-                let args = args.copy(alloc)?;
+                let args = args.copy()?;
                 Ok(OptOp::Plain {
                     code: *code,
                     result: *gives,
@@ -197,8 +197,8 @@ impl OptOp {
                 guard,
                 snap,
             } => {
-                let args = args.copy(alloc)?;
-                let snap = snap.copy(alloc)?;
+                let args = args.copy()?;
+                let snap = snap.copy()?;
                 Ok(OptOp::Guard {
                     code: *code,
                     args,
@@ -207,14 +207,14 @@ impl OptOp {
                 })
             }
             OptOp::Exit { guard, snap } => {
-                let snap = snap.copy(alloc)?;
+                let snap = snap.copy()?;
                 Ok(OptOp::Exit {
                     guard: *guard,
                     snap,
                 })
             }
             OptOp::Jump { to, args } => {
-                let args = args.copy(alloc)?;
+                let args = args.copy()?;
                 Ok(OptOp::Jump { to: *to, args })
             }
             OptOp::Finish { value } => Ok(OptOp::Finish { value: *value }),
@@ -223,18 +223,18 @@ impl OptOp {
 }
 
 impl CopyIn for OptOp {
-    fn copy_in(&self, alloc: Global) -> Result<Self, AllocError> {
-        self.copy(alloc)
+    fn copy_in(&self) -> Result<Self, AllocError> {
+        self.copy()
     }
 }
 
 impl Piece {
     /// An equal piece.
-    pub fn copy(&self, alloc: Global) -> Result<Piece, AllocError>
+    pub fn copy(&self) -> Result<Piece, AllocError>
         ensures { IfOk result (λ c. c ≡ self.now) }
     {
-        let label = self.label.copy(alloc)?;
-        let ops = self.ops.copy_each(alloc)?;
+        let label = self.label.copy()?;
+        let ops = self.ops.copy_each()?;
         Ok(Piece {
             id: self.id,
             label,
@@ -244,30 +244,30 @@ impl Piece {
 }
 
 impl CopyIn for Piece {
-    fn copy_in(&self, alloc: Global) -> Result<Self, AllocError> {
-        self.copy(alloc)
+    fn copy_in(&self) -> Result<Self, AllocError> {
+        self.copy()
     }
 }
 
 impl OptTrace {
     /// An equal trace.
-    pub fn copy(&self, alloc: Global) -> Result<OptTrace, AllocError>
+    pub fn copy(&self) -> Result<OptTrace, AllocError>
         ensures { IfOk result (λ c. c ≡ self.now) }
     {
-        let pieces = self.pieces.copy_each(alloc)?;
+        let pieces = self.pieces.copy_each()?;
         Ok(OptTrace { pieces })
     }
 }
 
 impl CopyIn for OptTrace {
-    fn copy_in(&self, alloc: Global) -> Result<Self, AllocError> {
-        self.copy(alloc)
+    fn copy_in(&self) -> Result<Self, AllocError> {
+        self.copy()
     }
 }
 
 impl Fact {
     /// An equal fact.
-    pub fn copy(&self, alloc: Global) -> Result<Fact, AllocError>
+    pub fn copy(&self) -> Result<Fact, AllocError>
         ensures { IfOk result (λ c. c ≡ self.now) }
     {
         match self {
@@ -276,7 +276,7 @@ impl Fact {
             Fact::ClassOf(of, size) => Ok(Fact::ClassOf(*of, *size)),
             Fact::Holds(base, spot, value) => Ok(Fact::Holds(*base, *spot, *value)),
             Fact::Same(code, args, value) => {
-                let args = args.copy(alloc)?;
+                let args = args.copy()?;
                 Ok(Fact::Same(*code, args, *value))
             }
         }
@@ -284,21 +284,21 @@ impl Fact {
 }
 
 impl CopyIn for Fact {
-    fn copy_in(&self, alloc: Global) -> Result<Self, AllocError> {
-        self.copy(alloc)
+    fn copy_in(&self) -> Result<Self, AllocError> {
+        self.copy()
     }
 }
 
 impl Entry {
     /// An equal entry.
-    pub fn copy(&self, alloc: Global) -> Result<Entry, AllocError>
+    pub fn copy(&self) -> Result<Entry, AllocError>
         ensures { IfOk result (λ c. c ≡ self.now) }
     {
-        let label = self.label.copy(alloc)?;
-        let values = self.values.copy(alloc)?;
-        let shapes = self.shapes.copy_each(alloc)?;
-        let pending = self.pending.copy(alloc)?;
-        let facts = self.facts.copy_each(alloc)?;
+        let label = self.label.copy()?;
+        let values = self.values.copy()?;
+        let shapes = self.shapes.copy_each()?;
+        let pending = self.pending.copy()?;
+        let facts = self.facts.copy_each()?;
         Ok(Entry {
             label,
             values,
@@ -310,7 +310,7 @@ impl Entry {
 }
 
 impl CopyIn for Entry {
-    fn copy_in(&self, alloc: Global) -> Result<Self, AllocError> {
-        self.copy(alloc)
+    fn copy_in(&self) -> Result<Self, AllocError> {
+        self.copy()
     }
 }

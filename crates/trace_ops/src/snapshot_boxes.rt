@@ -84,7 +84,7 @@ fn note_stores(seen: &mut IndexSet<BoxId>, stores: &[Pending]) -> Result<(), All
 
 /// The distinct boxes of a snapshot by first occurrence in its frames, then its shapes, then its pending stores.
 #[tactic(auto, using(crate::proofs::WithBoxes::append))]
-pub fn parts(snap: &Snapshot, alloc: Global) -> Result<List<BoxId>, AllocError>
+pub fn parts(alloc: Global, snap: &Snapshot) -> Result<List<BoxId>, AllocError>
     ensures { IfOk result (λ boxes. boxes ≡ parts_of snap.now) }
 {
     let mut seen = IndexSet::new(alloc);

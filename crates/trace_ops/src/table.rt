@@ -1,7 +1,7 @@
 ghost use Rattle.std.specs.Prelude.{◌≡◌, IfOk};
 
 use crate::{CopyIn, Kind, List, Text, Word};
-use std::alloc::{AllocError, Global};
+use std::alloc::AllocError;
 
 /// A size or an array by its row.
 #[derive(Clone, Copy, Debug, PartialEq, Eq, Hash)]
@@ -94,10 +94,10 @@ pub enum What {
 
 impl SizeRow {
     /// An equal row.
-    pub fn copy(&self, alloc: Global) -> Result<SizeRow, AllocError>
+    pub fn copy(&self) -> Result<SizeRow, AllocError>
         ensures { IfOk result (λ c. c ≡ self.now) }
     {
-        let fields = self.fields.copy(alloc)?;
+        let fields = self.fields.copy()?;
         Ok(SizeRow {
             name: self.name,
             vtable: self.vtable,
@@ -107,19 +107,19 @@ impl SizeRow {
 }
 
 impl CopyIn for SizeRow {
-    fn copy_in(&self, alloc: Global) -> Result<Self, AllocError> {
-        self.copy(alloc)
+    fn copy_in(&self) -> Result<Self, AllocError> {
+        self.copy()
     }
 }
 
 impl CallRow {
     /// An equal row.
-    pub fn copy(&self, alloc: Global) -> Result<CallRow, AllocError>
+    pub fn copy(&self) -> Result<CallRow, AllocError>
         ensures { IfOk result (λ c. c ≡ self.now) }
     {
-        let args = self.args.copy(alloc)?;
-        let reads = self.reads.copy(alloc)?;
-        let writes = self.writes.copy(alloc)?;
+        let args = self.args.copy()?;
+        let reads = self.reads.copy()?;
+        let writes = self.writes.copy()?;
         Ok(CallRow {
             name: self.name,
             args,
@@ -131,17 +131,17 @@ impl CallRow {
 }
 
 impl CopyIn for CallRow {
-    fn copy_in(&self, alloc: Global) -> Result<Self, AllocError> {
-        self.copy(alloc)
+    fn copy_in(&self) -> Result<Self, AllocError> {
+        self.copy()
     }
 }
 
 impl PrebuiltRow {
     /// An equal row.
-    pub fn copy(&self, alloc: Global) -> Result<PrebuiltRow, AllocError>
+    pub fn copy(&self) -> Result<PrebuiltRow, AllocError>
         ensures { IfOk result (λ c. c ≡ self.now) }
     {
-        let parts = self.parts.copy(alloc)?;
+        let parts = self.parts.copy()?;
         Ok(PrebuiltRow {
             name: self.name,
             of: self.of,
@@ -151,23 +151,23 @@ impl PrebuiltRow {
 }
 
 impl CopyIn for PrebuiltRow {
-    fn copy_in(&self, alloc: Global) -> Result<Self, AllocError> {
-        self.copy(alloc)
+    fn copy_in(&self) -> Result<Self, AllocError> {
+        self.copy()
     }
 }
 
 impl Table {
     /// An equal table.
-    pub fn copy(&self, alloc: Global) -> Result<Table, AllocError>
+    pub fn copy(&self) -> Result<Table, AllocError>
         ensures { IfOk result (λ c. c ≡ self.now) }
     {
-        let shapes = self.shapes.copy(alloc)?;
-        let sizes = self.sizes.copy_each(alloc)?;
-        let fields = self.fields.copy(alloc)?;
-        let arrays = self.arrays.copy(alloc)?;
-        let calls = self.calls.copy_each(alloc)?;
-        let functions = self.functions.copy(alloc)?;
-        let prebuilts = self.prebuilts.copy_each(alloc)?;
+        let shapes = self.shapes.copy()?;
+        let sizes = self.sizes.copy_each()?;
+        let fields = self.fields.copy()?;
+        let arrays = self.arrays.copy()?;
+        let calls = self.calls.copy_each()?;
+        let functions = self.functions.copy()?;
+        let prebuilts = self.prebuilts.copy_each()?;
         Ok(Table {
             shapes,
             sizes,

@@ -1,4 +1,4 @@
-use Rattle.std.proofs.Common.{◌≡◌, List, ap, ◌∙◌}
+use Rattle.std.proofs.Common.{List, ap, ◌∙◌}
 use Rattle.std.specs.List.{flat_map}
 use Rattle.trace_ops.proofs.WithBoxes.{noted_all, noted_more}
 use Rattle.trace_ops.specs.declared.piece.Val.{Val}

@@ -1,4 +1,4 @@
-use Rattle.std.proofs.Common.{◌≡◌, ℕ, Option, Some, None, get_or, ap, sym, ◌∙◌, arith}
+use Rattle.std.proofs.Common.{ℕ, Option, None, get_or, ap, sym, ◌∙◌, arith}
 use Rattle.trace_ops.specs.Weights.{along, capped}
 use Rattle.trace_ops.proofs.Capped.{along-end, along-none, along_up}
 use Rattle.trace_ops.proofs.weights.+along.Goals as goal

@@ -1,4 +1,4 @@
-use Rattle.std.proofs.Common.{◌≡◌, ℕ, arith, length, length-set, ◌∙◌}
+use Rattle.std.proofs.Common.{arith, length-set, ◌∙◌}
 use Rattle.trace_ops.proofs.Filled.{filled_more}
 use Rattle.trace_ops.specs.Weights.{own_weight, capped}
 use Rattle.trace_ops.proofs.weights.own_weights.Goals as goal

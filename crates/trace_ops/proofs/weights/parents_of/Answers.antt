@@ -1,4 +1,4 @@
-use Rattle.std.proofs.Common.{◌≡◌, ℕ, arith, None, length, length-set, ◌∙◌}
+use Rattle.std.proofs.Common.{arith, None, length-set, ◌∙◌}
 use Rattle.trace_ops.proofs.Filled.{filled_more}
 use Rattle.trace_ops.specs.Weights.{parent_at}
 use Rattle.trace_ops.proofs.weights.parents_of.Goals as goal

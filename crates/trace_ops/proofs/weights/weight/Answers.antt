@@ -1,4 +1,4 @@
-use Rattle.std.proofs.Common.{◌≡◌, ℕ, ◌<◌, Some, None, get_or, length, ap, sym, ◌∙◌, arith}
+use Rattle.std.proofs.Common.{◌≡◌, ◌<◌, Some, None, get_or, length, ap, sym, ◌∙◌, arith}
 use Rattle.trace_ops.specs.Weights.{capped, along, trace_weight, own_weight, parent_at}
 use Rattle.trace_ops.proofs.Capped.{sum_below-none, weighed_more, along-same}
 use Rattle.trace_ops.proofs.Parents.{parent_at-below}

@@ -1,4 +1,4 @@
-use Rattle.std.proofs.Common.{◌≡◌, length}
+use Rattle.std.proofs.Common.{◌≡◌}
 use Rattle.trace_ops.specs.Weights.{sum_below, trace_weight, capped}
 use Rattle.trace_ops.proofs.weights.weight.Given as goal
 

@@ -1,0 +1,10 @@
+//! What recorded traces do: stores of objects, calls and their answers, and the run of a trace set.
+#![tactic(auto)]
+
+mod call;
+mod state;
+mod value;
+
+pub use call::{Answer, AnswerStore, CallEvent, Give};
+pub use state::{RecFrame, RecState};
+pub use value::{Object, Store, Value};

@@ -1,0 +1,7 @@
+use Rattle.std.proofs.Common.{◌≡◌, sym, subst}
+use Rattle.std.specs.Bool.{Decides}
+use Rattle.trace_ops.proofs.equality.same_trace_set.Goals as goal
+use Rattle.trace_ops.proofs.Same.{trace_set_decides}
+
+pub returns : goal.returns
+returns c = subst (λ r. Decides r (c.args.a.now ≡ c.args.b.now)) (sym c.eq.ensures) (trace_set_decides c.args.a.now c.args.b.now)

@@ -83,6 +83,7 @@ FitsDescr t (cites.Array k) (descr.Array a) = IsAsked k (kind_of_item t a)
 FitsDescr t (cites.Size v) (descr.Size s) = IsSomeAnd (slice_get t.sizes s) (HasVtable v)
 FitsDescr t (cites.Call k) (descr.Call c) = IsSomeAnd (slice_get t.calls c) (λ (row : CallRow). row.result ≡ k)
 FitsDescr t cites.Target (descr.Target name) = Unit {0}
+FitsDescr t cites.Target descr.No = Unit {0}
 FitsDescr t _ _ = ⊥
 
 -- an operation with its arguments, its result and its descr

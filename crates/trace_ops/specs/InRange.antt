@@ -86,17 +86,21 @@ pub record IsTableWithin (t : Table) : Type 0 where
   pub writes : All (λ (row : CallRow). length row.writes ≤ 16) t.calls
   pub prebuilt : sum_by prebuilt_bytes t.prebuilts ≤ 32768
 
+-- a table whose numbers name rows, and that keeps within its limits
+pub record IsTableInRange (t : Table) : Type 0 where
+  pub shapes_name_rows : All (NamesShape t) t.shapes
+  pub each_size_once : (k : ℕ) → k < length t.sizes → StandsOnce (shape.Size k) t.shapes
+  pub each_array_once : (k : ℕ) → k < length t.arrays → StandsOnce (shape.Array k) t.shapes
+  pub fields_name_sizes : All (λ (f : FieldRow). f.size < length t.sizes) t.fields
+  pub sizes_list_their_fields : (k : ℕ) (row : SizeRow) → slice_get t.sizes k ≡ Some row → row.fields ≡ fields_of_size t k
+  pub calls_name_fields : All (NamesCall t) t.calls
+  pub prebuilts_fit : All (IsPrebuilt t) t.prebuilts
+  pub within : IsTableWithin t
+
 -- a set in range
 pub record IsInRange (set : TraceSet) : Type 0 where
-  pub shapes_name_rows : All (NamesShape set.table) set.table.shapes
-  pub each_size_once : (k : ℕ) → k < length set.table.sizes → StandsOnce (shape.Size k) set.table.shapes
-  pub each_array_once : (k : ℕ) → k < length set.table.arrays → StandsOnce (shape.Array k) set.table.shapes
-  pub fields_name_sizes : All (λ (f : FieldRow). f.size < length set.table.sizes) set.table.fields
-  pub sizes_list_their_fields : (k : ℕ) (row : SizeRow) → slice_get set.table.sizes k ≡ Some row → row.fields ≡ fields_of_size set.table k
-  pub calls_name_fields : All (NamesCall set.table) set.table.calls
-  pub prebuilts_fit : All (IsPrebuilt set.table) set.table.prebuilts
+  pub table : IsTableInRange set.table
   pub operations_name_rows : All (λ (t : Trace). All (NamesOperation set.table) t.ops) set.traces
   pub slots_hold_values : All (λ (t : Trace). All (λ (op : Op). All (λ (f : Frame). All IsSlot f.slots) op.snapshot) t.ops) set.traces
-  pub table_within : IsTableWithin set.table
   pub traces_within : All IsTraceWithin set.traces
   pub few_traces : length set.traces ≤ 256

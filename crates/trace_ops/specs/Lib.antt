@@ -12,3 +12,5 @@ pub mod Lawful
 pub mod Pieces
 pub mod Snapshots
 pub mod Sound
+pub mod Rules
+pub mod WellFormed

@@ -197,8 +197,7 @@ abbrev pub above : TraceSet → ℕ → ℕ → Option ℕ
 above set i zero = Some i
 above set i (suc n) = option_and_then (parent_at set) (above set i n)
 
--- 14: no earlier trace has this name, and the parents come to an end
+-- 14: no earlier trace has this name, and the parents go in no circle: the path to them has at most as many places as there are traces
 pub record IsOrdered (set : TraceSet) (i : ℕ) (t : Trace) : Type 0 where
   pub new_name : (j : ℕ) (other : Trace) → j < i → slice_get set.traces j ≡ Some other → other.name ≢ t.name
-  pub height : ℕ
-  pub ends_above : above set i height ≡ None
+  pub ends_above : above set i (length set.traces) ≡ None

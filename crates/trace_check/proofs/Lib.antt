@@ -1,0 +1,4 @@
+pub mod Knowing
+pub mod Least
+pub mod Slots
+pub mod Walking

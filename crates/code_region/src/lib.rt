@@ -2,6 +2,7 @@
 #![tactic(auto)]
 
 mod chunk;
+mod link;
 mod region;
 
 pub use region::Region;

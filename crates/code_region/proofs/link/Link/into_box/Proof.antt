@@ -25,11 +25,10 @@ use denote.Triple.Clauses.{Lasts, lasts}
 use denote.Triple.Spec.{triple_of}
 use denote.Triple.Table.{framed}
 use denote.Triple.Walked.{says, Stays, stay_dropped, walk_of, ends_at}
-use Rattle.std.proofs.alloc.Calls.{token, Goes-blank}
+use Rattle.std.proofs.alloc.Calls.{Goes-blank}
 use Rattle.std.proofs.raw_atomic.Walks.{proved_at}
-use Rattle.std.proofs.BoxSteps.Form.{Bx, R, P, B, box_ty, word, box_typed}
+use Rattle.std.proofs.BoxSteps.Form.{Bx, B, box_ty, word, box_typed}
 use Rattle.std.proofs.BoxSteps.Steps.{box_out, box_in}
-use Rattle.std.specs.Box.Ownership.{box_owns}
 use Rattle.std.specs.contracts.boxed.Box.from_raw as callee
 use Rattle.std.proofs.boxed.Box.from_raw.Met as callee-met
 use Rattle.code_region.proofs.LinkSteps.{L, link_out}

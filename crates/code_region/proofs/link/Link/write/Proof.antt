@@ -1,6 +1,6 @@
 -- The pointer is read through the `&mut`, the value is lent, and the link follows it.
 use mathlib.Core.Path.{refl}
-use mathlib.Core.List.{List, [], ◌∷◌}
+use mathlib.Core.List.{[], ◌∷◌}
 use mir.Syntax.{Fn, Args, a_type, dcons, dnil, named}
 use mir.MapTy.{inst_fn}
 use mir.Val.{Val, vptr}

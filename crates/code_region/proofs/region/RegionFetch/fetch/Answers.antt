@@ -1,4 +1,4 @@
-use Rattle.std.proofs.Common.{◌≡◌, ℕ, ◌+◌, ◌<◌, ◌++◌, List, length, take, ap, ◌∙◌, arith}
+use Rattle.std.proofs.Common.{ℕ, ◌+◌, ◌<◌, ◌++◌, List, length, ap, ◌∙◌, arith}
 use Rattle.code_region.proofs.Runs.{two_runs}
 use Rattle.code_region.proofs.region.RegionFetch.fetch.Goals as goal
 

@@ -8,7 +8,7 @@ use std::marker::Model;
 /// How many bytes a chunk has room for.
 pub(crate) const CHUNK: usize = 65536;
 
-/// The bytes that are written so far, in a block with room for a whole chunk.
+/// The bytes that are written so far, behind a raw pointer, with room for a whole chunk that is not written yet.
 #[derive(Drop)]
 pub(crate) struct Chunk {
     block: Link<Vec<u8>, Global>,

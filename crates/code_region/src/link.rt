@@ -7,7 +7,7 @@ ghost use denote.Struct.Lending.{lent_at};
 use std::alloc::Allocator;
 use std::marker::Model;
 
-/// The one pointer to a block that holds a value. The block is freed once, when the link is dropped.
+/// The one pointer that owns a block with a value in it. Dropping the link frees the block, once.
 pub(crate) struct Link<T, A: Allocator> {
     at: *mut T,
     alloc: A,
@@ -48,7 +48,7 @@ impl<T, A: Allocator> Link<T, A> {
         unsafe { &mut *self.at }
     }
 
-    /// The box again, which frees the block.
+    /// The box again. Dropping it frees the block.
     pub(crate) fn into_box(self) -> Box<T, A>
         ensures { result.value ≡ self.value }
     {

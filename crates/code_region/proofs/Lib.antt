@@ -1,3 +1,4 @@
 pub mod Filled
+pub mod LinkSteps
 pub mod Patched
 pub mod Runs

@@ -1,16 +1,17 @@
 // A chunk of code bytes.
 ghost use Rattle.std.specs.Prelude.{◌≡◌, ◌+◌, ◌≤◌, ◌<◌, [], ◌++◌, length, IfOk, vec_len, slice_set};
 
+use crate::link::Link;
 use std::alloc::{AllocError, Global};
 use std::marker::Model;
 
 /// How many bytes a chunk has room for.
 pub(crate) const CHUNK: usize = 65536;
 
-/// The bytes that are written so far, in a block with room for a whole chunk.
+/// The bytes that are written so far, behind a raw pointer, with room for a whole chunk that is not written yet.
 #[derive(Drop)]
 pub(crate) struct Chunk {
-    bytes: Vec<u8>,
+    block: Link<Vec<u8>, Global>,
 }
 
 impl Model for Chunk {
@@ -18,9 +19,9 @@ impl Model for Chunk {
 
     ghost Value = { List ℕ };
 
-    ghost view = { λ c. c.bytes.items };
+    ghost view = { λ c. c.block.value.items };
 
-    ghost invariant = { λ c. 65536 ≤ vec_capacity c.bytes };
+    ghost invariant = { λ c. 65536 ≤ vec_capacity c.block.value };
 }
 
 impl Chunk {
@@ -29,14 +30,15 @@ impl Chunk {
         ensures { IfOk result (λ c. c ≡ []) }
     {
         let bytes = Vec::with_capacity(alloc, CHUNK)?;
-        Ok(Chunk { bytes })
+        let block = Link::make(Box::new(alloc, bytes)?);
+        Ok(Chunk { block })
     }
 
     /// The bytes that are written.
     pub(crate) fn bytes(&self) -> &[u8]
         ensures { result.now ≡ self.now }
     {
-        self.bytes.as_slice()
+        self.block.read().as_slice()
     }
 
     /// Writes bytes behind those that stand, in the room that is left.
@@ -44,7 +46,7 @@ impl Chunk {
         requires { length self.old + length more.now ≤ 65536 }
         ensures { self.new ≡ self.old ++ more.now }
     {
-        let written = self.bytes.extend_from_slice(more);
+        let written = self.block.write().extend_from_slice(more);
         prove!(written.is_ok());
         let _ = written;
     }
@@ -54,6 +56,6 @@ impl Chunk {
         requires { at < length self.old }
         ensures { self.new ≡ slice_set self.old at byte }
     {
-        self.bytes[at] = byte;
+        self.block.write()[at] = byte;
     }
 }

@@ -1,7 +1,8 @@
-//! Code bytes in chunks that are never moved, so that growth neither zeroes nor copies them.
+//! Code bytes in chunks behind raw pointers. A chunk is never moved, so growth neither zeroes nor copies bytes.
 #![tactic(auto)]
 
 mod chunk;
+mod link;
 mod region;
 
 pub use region::Region;

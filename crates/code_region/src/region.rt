@@ -52,6 +52,17 @@ fn spot_of(at: usize) -> Spot
     }
 }
 
+// Writes a run at the buffer's start. A whole buffer is one move of sixteen bytes.
+fn put_first(buf: &mut [u8; 16], run: &[u8])
+    requires { length run.now ≤ 16 }
+    ensures { take (length run.now) buf.new ≡ run.now }
+{
+    match run.first_chunk() {
+        Some(whole) => *buf = *whole,
+        None => buf[..run.len()].copy_from_slice(run),
+    }
+}
+
 // Writes a run into the buffer.
 fn put_run(buf: &mut [u8; 16], from: usize, run: &[u8])
     requires { from + length run.now ≤ 16 }
@@ -193,7 +204,7 @@ impl Fetch for Region {
         let place = spot_of(at);
         let first = self.run(place, 16);
         let n = first.len();
-        put_run(buf, 0, first);
+        put_first(buf, first);
         if n == 16 || len <= at + n {
             return n;
         }

@@ -13,6 +13,10 @@ fn a_patch_crosses_two_chunks(rt: HostRuntime) -> Result<(), Fail> {
     let mut bytes = [0u8; 16];
     assert_eq!(rt; region.fetch(65534, &mut bytes), 5);
     assert!(rt; bytes.starts_with(&[0xE9, 0x10, 0, 0, 0]));
+    assert_eq!(rt; region.fetch(65520, &mut bytes), 16);
+    assert!(rt; bytes.ends_with(&[0xC3, 0xE9, 0x10]));
+    assert_eq!(rt; region.fetch(65523, &mut bytes), 16);
+    assert!(rt; bytes.ends_with(&[0xC3, 0xE9, 0x10, 0, 0, 0]));
     Ok(())
 }
 

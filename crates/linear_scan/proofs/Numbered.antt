@@ -1,7 +1,7 @@
 -- Numbered boxes, and when they live.
-use Rattle.std.proofs.Common.{◌≡◌, ◌≢◌, ℕ, zero, suc, ◌+◌, ◌<◌, ◌≤◌, List, [], ◌∷◌, ◌++◌, map, Some, None, Option, Bool, true, false, IsTrue, nat_eq, length, slice_get, slice_index, take, refl, ap, sym, subst, ◌∙◌, ◌⊎◌, inl, inr, arith, append_assoc, length-append, if◌then◌else◌, ◌||◌}
+use Rattle.std.proofs.Common.{◌≡◌, ℕ, zero, suc, ◌+◌, ◌<◌, ◌≤◌, List, [], ◌∷◌, ◌++◌, map, Some, None, Option, Bool, true, IsTrue, nat_eq, length, slice_get, slice_index, take, refl, ap, sym, subst, ◌∙◌, ◌⊎◌, inl, inr, arith, append_assoc, length-append, if◌then◌else◌, ◌||◌}
 use Rattle.std.specs.Prelude.{slice_index_or}
-use Rattle.std.specs.List.{All, Contains, flat_map, list_any, range_with_len}
+use Rattle.std.specs.List.{Contains, flat_map, list_any, range_with_len}
 use Rattle.std.proofs.lemmas.Bool.{cases_Bool}
 use Rattle.std.proofs.lemmas.Bool.Decides.{eqb_tells}
 use Rattle.std.proofs.lemmas.List.{append-nil}
@@ -10,12 +10,10 @@ use Rattle.trace_ops.specs.declared.trace.BoxId.{BoxId}
 use Rattle.trace_ops.specs.declared.piece.OptOp.{OptOp}
 use Rattle.trace_ops.specs.declared.piece.Piece.{Piece}
 use Rattle.trace_ops.specs.Pieces.{used_by, results_of, defined_by, defined_before}
-use Rattle.linear_scan.specs.Living.{HaveNumbersBelow, UsesDefined, starts, starts_from, start_of, end_of, uses_box, last_use, LivesAt}
+use Rattle.linear_scan.specs.Living.{HaveNumbersBelow, UsesDefined, starts_from, start_of, end_of, uses_box, last_use}
 use Rattle.linear_scan.specs.Numbering.{AreNumbered, AreDefined, BoxesLive}
-use Rattle.linear_scan.proofs.Below.{AreBelow, below_index, below_step, zeros_low}
 use Rattle.linear_scan.proofs.Marks.{got_within}
 use Rattle.linear_scan.proofs.Recent.{entry_before, mapped, used_late}
-
 
 -- what a list contains is at some place
 place_of : {X : Type 0} (xs : List X) (x : X) → Contains xs x → (i : ℕ) × (slice_get xs i ≡ Some x)
@@ -63,8 +61,8 @@ pub uses_defined : (before : List BoxId) (ops : List OptOp) → map (λ (b : Box
 uses_defined before [] h d = tt
 uses_defined before (op ∷ ops) h d =
     let first : HaveNumbersBelow (length before) (used_by op) = below_all (length before) (used_by op) (λ b c.
-        let at = place_of before b (subst (λ xs. Contains xs b) (append-nil before) (d 0 op refl b c)) in
-        omega (arith, numbered_at (before ++ flat_map results_of (op ∷ ops)) 0 at.0 b h (get_before before (flat_map results_of (op ∷ ops)) at.0 b at.1), got_within before at.0 b at.1)) in
+    let at = place_of before b (subst (λ xs. Contains xs b) (append-nil before) (d 0 op refl b c)) in
+    omega (arith, numbered_at (before ++ flat_map results_of (op ∷ ops)) 0 at.0 b h (get_before before (flat_map results_of (op ∷ ops)) at.0 b at.1), got_within before at.0 b at.1)) in
     let more = before ++ results_of op in
     let same = append_assoc before (results_of op) (flat_map results_of ops) in
     let rest = uses_defined more ops (subst (λ xs. map (λ (b : BoxId). b.number) xs ≡ range_with_len 0 (length xs)) (sym same) h)
@@ -95,12 +93,14 @@ record IsResult (ops : List OptOp) (k : ℕ) (b : BoxId) (n : ℕ) : Type 0 wher
 result_at : (ops : List OptOp) (k : ℕ) (op : OptOp) (b : BoxId) → slice_get ops k ≡ Some op → Contains (results_of op) b → (n : ℕ) × IsResult ops k b n
 result_at [] k op b e c = cc
 result_at (o ∷ ops) zero op b e c =
-    let at = place_of (results_of o) b (subst (λ x. Contains (results_of x) b) (sym (unsome o op e)) c) in
-    (at.0, record {
-      there = get_before (results_of o) (flat_map results_of ops) at.0 b at.1;
-      begins = λ s. entry_before (map (λ x. s + 1) (results_of o)) (starts_from (s + 1) ops) at.0 (omega (arith, got_within (results_of o) at.0 b at.1, mapped (s + 1) (results_of o)))
-          ∙ one_at (s + 1) (results_of o) at.0 (got_within (results_of o) at.0 b at.1) ∙ omega arith;
-    })
+    let at = place_of (results_of o) b (subst (λ x. Contains (results_of x) b) (sym (unsome o op e)) c) in (
+      at.0,
+      record {
+        there = get_before (results_of o) (flat_map results_of ops) at.0 b at.1;
+        begins = λ s. entry_before (map (λ x. s + 1) (results_of o)) (starts_from (s + 1) ops) at.0 (omega (arith, got_within (results_of o) at.0 b at.1, mapped (s + 1) (results_of o)))
+            ∙ one_at (s + 1) (results_of o) at.0 (got_within (results_of o) at.0 b at.1) ∙ omega arith;
+      },
+    )
   where
     unsome : (a b : OptOp) → Some a ≡ Some b → a ≡ b
     unsome a b h = cc
@@ -110,13 +110,15 @@ result_at (o ∷ ops) zero op b e c =
     one_at m (x ∷ xs) zero w = refl
     one_at m (x ∷ xs) (suc i) w = one_at m xs i (omega arith)
 result_at (o ∷ ops) (suc k) op b e c =
-    let r = result_at ops k op b e c in
-    (length (results_of o) + r.0, record {
-      there = get_behind (results_of o) (flat_map results_of ops) r.0 ∙ r.1.there;
-      begins = λ s.
-          ap (λ n. slice_index (map (λ x. s + 1) (results_of o) ++ starts_from (s + 1) ops) (n + r.0)) (sym (mapped (s + 1) (results_of o)))
-          ∙ index_behind (map (λ x. s + 1) (results_of o)) (starts_from (s + 1) ops) r.0 ∙ r.1.begins (s + 1) ∙ omega arith;
-    })
+    let r = result_at ops k op b e c in (
+      length (results_of o) + r.0,
+      record {
+        there = get_behind (results_of o) (flat_map results_of ops) r.0 ∙ r.1.there;
+        begins = λ s.
+            ap (λ n. slice_index (map (λ x. s + 1) (results_of o) ++ starts_from (s + 1) ops) (n + r.0)) (sym (mapped (s + 1) (results_of o)))
+            ∙ index_behind (map (λ x. s + 1) (results_of o)) (starts_from (s + 1) ops) r.0 ∙ r.1.begins (s + 1) ∙ omega arith;
+      },
+    )
 
 result_begins : (piece : Piece) → AreNumbered piece → (k : ℕ) (op : OptOp) (b : BoxId) → slice_get piece.ops k ≡ Some op → Contains (results_of op) b → start_of piece b.number ≡ k + 1
 result_begins piece h k op b e c =

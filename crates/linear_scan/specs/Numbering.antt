@@ -1,5 +1,5 @@
 -- Boxes that are numbered as they are defined, and when such boxes live.
-use Rattle.std.specs.Prelude.{◌≡◌, ℕ, ◌+◌, List, map, Some, IsTrue, length, slice_get, ◌⊎◌}
+use Rattle.std.specs.Prelude.{◌≡◌, ℕ, ◌+◌, map, Some, IsTrue, length, slice_get, ◌⊎◌}
 use Rattle.std.specs.List.{All, Contains, range_with_len}
 use Rattle.trace_ops.specs.declared.trace.BoxId.{BoxId}
 use Rattle.trace_ops.specs.declared.piece.OptOp.{OptOp}

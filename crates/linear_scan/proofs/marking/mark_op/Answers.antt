@@ -1,4 +1,4 @@
-use Rattle.std.proofs.Common.{◌≡◌, ◌++◌, ◌∷◌, [], ◌∙◌, ap, sym, subst, length}
+use Rattle.std.proofs.Common.{◌≡◌, ◌++◌, [], ◌∙◌, ap, sym, subst, length}
 use Rattle.std.specs.List.{flat_map}
 use Rattle.trace_ops.specs.Parts.{boxes_of_arg, boxes_of}
 use Rattle.trace_ops.specs.Pieces.{used_by}

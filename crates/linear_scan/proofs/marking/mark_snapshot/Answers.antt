@@ -1,7 +1,6 @@
 use Rattle.std.proofs.Common.{◌≡◌, ◌++◌, ◌∙◌, ap, sym, length}
 use Rattle.std.specs.List.{flat_map}
 use Rattle.trace_ops.specs.Parts.{boxes_of_frame, boxes_of_shape, boxes_of_pending}
-use Rattle.linear_scan.specs.Living.{HaveNumbersBelow}
 use Rattle.linear_scan.specs.Marking.{mark}
 use Rattle.linear_scan.proofs.Marks.{below_parts, length-mark, mark-append}
 use Rattle.linear_scan.proofs.marking.mark_snapshot.Goals as goal

@@ -1,4 +1,4 @@
-use Rattle.std.proofs.Common.{◌≡◌, ◌+◌, ◌≤◌, length}
+use Rattle.std.proofs.Common.{◌≡◌, ◌+◌, length}
 use Rattle.std.specs.List.{flat_map}
 use Rattle.trace_ops.specs.Pieces.{results_of}
 use Rattle.linear_scan.specs.Living.{UsesDefined}

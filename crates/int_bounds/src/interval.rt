@@ -1,5 +1,5 @@
 //! The words from one to another.
-ghost use Rattle.std.specs.Prelude.{◌≡◌, ◌≤ℤ◌, ℤ};
+ghost use Rattle.std.specs.Prelude.{◌≤ℤ◌};
 
 use trace_ops::Word;
 

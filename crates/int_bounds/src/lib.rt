@@ -1,9 +1,13 @@
 //! Intervals of words: where the results of integer operations lie, and what comparisons tell.
 #![tactic(auto)]
 
+mod bits;
 mod exact;
 mod interval;
+mod only;
+mod outcomes;
 mod products;
+mod shifts;
 mod span;
 mod sums;
 

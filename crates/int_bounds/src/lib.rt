@@ -2,13 +2,16 @@
 #![tactic(auto)]
 
 mod bits;
+mod bounds;
 mod exact;
 mod interval;
 mod only;
 mod outcomes;
 mod products;
+mod results;
 mod shifts;
 mod span;
 mod sums;
 
 pub use interval::Interval;
+pub use results::transfer;

@@ -58,3 +58,7 @@ below_zero-cast h f t = let t' : le_z (pos 0) h ≡ false = rw (to_z-of_z w64 h 
 
 pub from_zero-cast : (l : ℤ) → FitsSigned w64 l → lt_z (to_z w64 (of_z w64 l)) (pos 0) ≡ false → pos 0 ≤ℤ l
 from_zero-cast l f t = let t' : lt_z l (pos 0) ≡ false = rw (to_z-of_z w64 l f) at t in grind (arith, ints)
+
+-- what is at most a negative word is negative
+pub negative-cast : (h x : ℤ) → FitsSigned w64 h → x ≤ℤ h → lt_z (to_z w64 (of_z w64 h)) (pos 0) ≡ true → x <ℤ pos 0
+negative-cast h x f le t = let t' : lt_z h (pos 0) ≡ true = rw (to_z-of_z w64 h f) at t in grind (arith, ints)

@@ -4,3 +4,5 @@ pub mod Casts
 pub mod Quotients
 pub mod Bitwise
 pub mod Equal
+pub mod Narrowed
+pub mod Told

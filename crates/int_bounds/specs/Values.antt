@@ -1,9 +1,8 @@
 -- What an integer operation gives.
-use Rattle.std.specs.Prelude.{◌≡◌, ℕ, ℤ, Bool, Option, Some, List}
+use Rattle.std.specs.Prelude.{ℕ, ℤ, Option, List}
 use Rattle.trace_ops.specs.declared.code.OpCode.{OpCode}
 use Rattle.trace_ops.specs.declared.code.OpCode.TheVariants as code
-use Rattle.trace_ops.specs.Folds.{binary, word_of, integer_arity}
-use Rattle.trace_ops.specs.Words.{truth}
+use Rattle.trace_ops.specs.Folds.{word_of, integer_arity}
 
 -- the operation that gives the same word and doesn't look for overflow
 abbrev pub plain_of : OpCode → OpCode
@@ -19,7 +18,3 @@ arity_of operation = integer_arity (plain_of operation)
 -- the word that an integer operation gives on words
 abbrev pub value_of : OpCode → List ℤ → Option ℤ
 value_of operation words = word_of (plain_of operation) words
-
--- a comparison of two words answers so
-abbrev pub Answers : OpCode → Bool → ℤ → ℤ → Type 0
-Answers operation passed x y = binary operation x y ≡ Some (truth passed)

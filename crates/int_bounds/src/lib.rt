@@ -5,13 +5,17 @@ mod bits;
 mod bounds;
 mod exact;
 mod interval;
+mod narrowing;
 mod only;
 mod outcomes;
 mod products;
 mod results;
 mod shifts;
+mod signed;
 mod span;
 mod sums;
+mod unsigned;
 
 pub use interval::Interval;
+pub use narrowing::narrow;
 pub use results::transfer;

@@ -66,3 +66,6 @@ pub above-corners : (m al ah bl bh x y : ℤ) → al ≤ℤ x → x ≤ℤ ah �
     → (al *ℤ bl) ≤ℤ m → (al *ℤ bh) ≤ℤ m → (ah *ℤ bl) ≤ℤ m → (ah *ℤ bh) ≤ℤ m → (x *ℤ y) ≤ℤ m
 above-corners m al ah bl bh x y a b c d p q r s =
     above-times m al ah x y a b (above-times_right m al bl bh y c d p q) (above-times_right m ah bl bh y c d r s)
+
+pub through : (m p n : ℤ) → m ≤ℤ p → p ≤ℤ n → m ≤ℤ n
+through m p n a b = omega (arith, ints)

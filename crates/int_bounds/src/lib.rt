@@ -19,3 +19,8 @@ mod unsigned;
 pub use interval::Interval;
 pub use narrowing::narrow;
 pub use results::transfer;
+
+#[cfg(test)]
+mod test_rows;
+#[cfg(test)]
+mod tests;

@@ -62,3 +62,11 @@ from_zero-cast l f t = let t' : lt_z l (pos 0) ≡ false = rw (to_z-of_z w64 l f
 -- what is at most a negative word is negative
 pub negative-cast : (h x : ℤ) → FitsSigned w64 h → x ≤ℤ h → lt_z (to_z w64 (of_z w64 h)) (pos 0) ≡ true → x <ℤ pos 0
 negative-cast h x f le t = let t' : lt_z h (pos 0) ≡ true = rw (to_z-of_z w64 h f) at t in grind (arith, ints)
+
+-- an exact result of 128 bits
+pub wide-cast : (f : ℤ → ℤ → ℤ) (p x y : ℤ) → FitsSigned w128 p → FitsSigned w64 x → FitsSigned w64 y
+    → p ≡ f (to_z w64 (of_z w64 x)) (to_z w64 (of_z w64 y)) → to_z w128 (of_z w128 p) ≡ f x y
+wide-cast f p x y fp fx fy e =
+    to_z-of_z w128 p fp ∙ e
+    ∙ ap (λ (v : ℤ). f v (to_z w64 (of_z w64 y))) (to_z-of_z w64 x fx)
+    ∙ ap (λ (v : ℤ). f x v) (to_z-of_z w64 y fy)

@@ -2,13 +2,16 @@
 ghost use Rattle.std.specs.Prelude.{◌≡◌, ℕ, ◌<◌, ◌≤◌, ◌^◌, ℤ, pos, ◌≤ℤ◌, ◌<ℤ◌, ◌+ℤ◌};
 ghost use Rattle.trace_ops.specs.Words.{conjoined, disjoined, toggled};
 ghost use Rattle.int_bounds.specs.Within.{IsWithin};
+ghost use Rattle.int_bounds.specs.Near.{IsMasked};
 
 use crate::Interval;
 use trace_ops::Word;
 
 // Of conjunctions: from 0 to the lesser of the bounds that aren't negative, and the whole range where none is.
 pub fn conjunctions(a: Interval, b: Interval) -> Interval
-    ensures { (x y : ℤ) → IsWithin a x → IsWithin b y → IsWithin result (conjoined x y) }
+    ensures contains { (x y : ℤ) → IsWithin a x → IsWithin b y → IsWithin result (conjoined x y) }
+    ensures first { IsMasked a result }
+    ensures second { IsMasked b result }
 {
     if a.low >= 0 {
         if b.low >= 0 && b.high < a.high {

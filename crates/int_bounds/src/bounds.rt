@@ -2,6 +2,7 @@
 ghost use Rattle.std.specs.Prelude.{ℤ, pos, IfSome};
 ghost use Rattle.trace_ops.specs.Folds.{unary, binary};
 ghost use Rattle.int_bounds.specs.Within.{IsWithin};
+ghost use Rattle.int_bounds.specs.Near.{IsNearOne, IsNearTwo};
 
 use crate::Interval;
 use crate::bits::{conjunctions, disjunctions, toggles};
@@ -20,7 +21,8 @@ fn zero() -> Interval
 
 // Of one word.
 pub fn bounds_of_one(code: OpCode, a: Interval) -> Interval
-    ensures { (x : ℤ) → IsWithin a x → IfSome (unary code x) (IsWithin result) }
+    ensures contains { (x : ℤ) → IsWithin a x → IfSome (unary code x) (IsWithin result) }
+    ensures near { IsNearOne code a result }
 {
     match code {
         OpCode::IntIsZero => equals(a, zero()),
@@ -35,7 +37,8 @@ pub fn bounds_of_one(code: OpCode, a: Interval) -> Interval
 
 // Of two words.
 pub fn bounds_of_two(code: OpCode, a: Interval, b: Interval) -> Interval
-    ensures { (x y : ℤ) → IsWithin a x → IsWithin b y → IfSome (binary code x y) (IsWithin result) }
+    ensures contains { (x y : ℤ) → IsWithin a x → IsWithin b y → IfSome (binary code x y) (IsWithin result) }
+    ensures near { IsNearTwo code a b result }
 {
     match code {
         OpCode::IntAdd => sums(a, b),

@@ -25,7 +25,7 @@ returns c = λ x y a b.
     let bh : FitsSigned w64 c.args.b.high = search rules in
     let least : FitsSigned w128 c.least.result = search rules in
     let greatest : FitsSigned w128 c.greatest.result = search rules in
-    c.span.ensures (x *ℤ y)
+    c.span.ensures.contains (x *ℤ y)
     (rw (to_z-of_z w128 c.least.result least)
     (below-corners c.least.result c.args.a.low c.args.a.high c.args.b.low c.args.b.high x y a.0 a.1 b.0 b.1
     (below-cast _ c.product-first.result _ _ (search rules) al bl c.least.ensures.first c.product-first.ensures)

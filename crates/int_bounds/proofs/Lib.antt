@@ -6,3 +6,4 @@ pub mod Bitwise
 pub mod Equal
 pub mod Narrowed
 pub mod Told
+pub mod Folded

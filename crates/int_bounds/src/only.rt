@@ -9,6 +9,7 @@ use trace_ops::Word;
 pub fn only(a: Interval) -> Option<Word>
     ensures some { IfSome result (λ w. (x : ℤ) → IsWithin a x → x ≡ w) }
     ensures low { IfSome result (λ w. a.low ≡ w) }
+    ensures high { IfSome result (λ w. a.high ≡ w) }
     ensures none { IfNone result (a.low ≢ a.high) }
 {
     if a.low == a.high { Some(a.low) } else { None }

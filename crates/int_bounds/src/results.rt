@@ -2,6 +2,7 @@
 ghost use Rattle.std.specs.Prelude.{◌≡◌, ℤ, Some, List, length, IfSome};
 ghost use Rattle.trace_ops.specs.Folds.{unary, binary};
 ghost use Rattle.int_bounds.specs.Within.{IsWithin, AreWithin, IsOnly, AreOnly};
+ghost use Rattle.int_bounds.specs.Near.{IsNearOne, IsNearTwo, IsNear};
 ghost use Rattle.int_bounds.specs.Values.{plain_of, arity_of, value_of};
 
 use crate::Interval;
@@ -25,6 +26,7 @@ fn plain_of(code: OpCode) -> OpCode
 fn of_one(code: OpCode, a: Interval) -> Interval
     ensures contains { (x : ℤ) → IsWithin a x → IfSome (unary code x) (IsWithin result) }
     ensures constant { (x : ℤ) → IsOnly a x → IfSome (unary code x) (IsOnly result) }
+    ensures near { IsNearOne code a result }
 {
     let Some(x) = only(a) else {
         return bounds_of_one(code, a);
@@ -39,6 +41,7 @@ fn of_one(code: OpCode, a: Interval) -> Interval
 fn of_two(code: OpCode, a: Interval, b: Interval) -> Interval
     ensures contains { (x y : ℤ) → IsWithin a x → IsWithin b y → IfSome (binary code x y) (IsWithin result) }
     ensures constant { (x y : ℤ) → IsOnly a x → IsOnly b y → IfSome (binary code x y) (IsOnly result) }
+    ensures near { IsNearTwo code a b result }
 {
     let Some(x) = only(a) else {
         return bounds_of_two(code, a, b);
@@ -65,6 +68,7 @@ pub fn transfer(code: OpCode, args: &[Interval]) -> Interval
     requires { arity_of code ≡ Some (length args.now) }
     ensures contains { (words : List ℤ) → AreWithin args.now words → IfSome (value_of code words) (IsWithin result) }
     ensures constant { (words : List ℤ) → AreOnly args.now words → IfSome (value_of code words) (IsOnly result) }
+    ensures near { IsNear (plain_of code) args.now result }
 {
     match args {
         [a] => of_one(plain_of(code), *a),

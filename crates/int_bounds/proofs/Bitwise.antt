@@ -1,5 +1,5 @@
 -- Bitwise operations on words that aren't negative.
-use Rattle.std.proofs.Common.{◌≡◌, ℕ, ◌<◌, ◌≤◌, ◌+◌, ◌/◌, max, inl, inr, lit<, ◌^◌, ℤ, pos, negsuc, ◌≤ℤ◌, ◌<ℤ◌, ◌+ℤ◌, arith, rules, bit_and, bit_or, bit_xor, FitsSigned, to_z, of_z}
+use Rattle.std.proofs.Common.{◌≡◌, ℕ, ◌<◌, ◌≤◌, ◌+◌, ◌/◌, max, inl, inr, lit<, ◌^◌, ℤ, pos, negsuc, ◌≤ℤ◌, ◌<ℤ◌, ◌+ℤ◌, arith, bit_and, bit_or, bit_xor, FitsSigned, to_z, of_z}
 use Rattle.std.specs.Int.{w64}
 use Rattle.std.proofs.Math.Nat.{pow-le-pow_right}
 use Rattle.std.proofs.lemmas.Bool.{cases_lt}

@@ -1,7 +1,7 @@
 -- The one result of known words is as near as bounds of results are.
-use Rattle.std.proofs.Common.{◌≡◌, ℤ, pos, ◌+ℤ◌, ◌-ℤ◌, ◌≤ℤ◌, Some, sym, arith, FitsSigned}
+use Rattle.std.proofs.Common.{◌≡◌, ℤ, pos, ◌+ℤ◌, ◌-ℤ◌, ◌≤ℤ◌, Some, sym, FitsSigned}
 use Rattle.std.specs.Int.{w64}
-use Rattle.std.proofs.lemmas.Int.{ints, int_wrap_fits}
+use Rattle.std.proofs.lemmas.Int.{int_wrap_fits}
 use Rattle.trace_ops.specs.declared.code.OpCode.{OpCode}
 use Rattle.trace_ops.specs.declared.code.OpCode.TheVariants as code
 use Rattle.trace_ops.specs.Folds.{binary}
@@ -35,6 +35,7 @@ near-folded code.IntSub a b r x y z f g al ah bl bh e p q =
     span-folded (a.low -ℤ b.high) (a.high -ℤ b.low) z r same (cc) p q
 near-folded code.IntAnd a b r x y z f g al ah bl bh e p q =
     let result : z ≡ conjoined x y = Some-same (conjoined x y) z e in (
-        mask-folded a r x z al ah p q (λ h. rw result (conjoined-first x y f h)),
-        mask-folded b r y z bl bh p q (λ h. rw result (conjoined-second x y g h)))
+      mask-folded a r x z al ah p q (λ h. rw result (conjoined-first x y f h)),
+      mask-folded b r y z bl bh p q (λ h. rw result (conjoined-second x y g h)),
+    )
 near-folded _ a b r x y z f g al ah bl bh e p q = tt

@@ -1,6 +1,6 @@
 -- Quotients by powers of two go up with what is divided.
 use Rattle.std.proofs.Common.{◌≡◌, ℕ, ◌<◌, ◌≤◌, ◌*◌, ◌/◌, ◌^◌, ℤ, pos, negsuc, ◌≤ℤ◌, ◌<ℤ◌, ◌%◌, ◌⊎◌, inl, inr, lit<, ap, ◌∙◌, arith, rules, FitsSigned, to_z, of_z}
-use Rattle.std.specs.Int.{w64, int_shr}
+use Rattle.std.specs.Int.{w64}
 use Rattle.std.specs.Int.Signed.{shr_z}
 use Rattle.std.proofs.Math.Nat.{div-mul-le_self, mul-le-mul_left, pow-le-pow_right}
 use Rattle.std.proofs.lemmas.Nat.{le-div}

@@ -1,4 +1,4 @@
-use Rattle.std.proofs.Common.{◌≡◌, true, false, not, ap}
+use Rattle.std.proofs.Common.{not, ap}
 use Rattle.std.specs.Ordering.{int_eq}
 use Rattle.int_bounds.proofs.Equal.{equal-same, equal-apart}
 use Rattle.int_bounds.proofs.outcomes.differs.Goals as goal

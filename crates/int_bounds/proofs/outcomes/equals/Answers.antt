@@ -1,4 +1,3 @@
-use Rattle.std.proofs.Common.{◌≡◌, true}
 use Rattle.std.specs.Ordering.{int_eq}
 use Rattle.int_bounds.proofs.Equal.{equal-same, equal-apart}
 use Rattle.int_bounds.proofs.outcomes.equals.Goals as goal

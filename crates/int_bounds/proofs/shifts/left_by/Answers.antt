@@ -1,5 +1,5 @@
-use Rattle.std.proofs.Common.{◌≡◌, ◌^◌, pos, ◌*ℤ◌, rules, FitsSigned, to_z, of_z}
-use Rattle.std.specs.Int.{w64, w128}
+use Rattle.std.proofs.Common.{◌≡◌, ◌^◌, pos, ◌*ℤ◌, rules, to_z, of_z}
+use Rattle.std.specs.Int.{w128}
 use Rattle.trace_ops.specs.Words.{shift_of}
 use Rattle.int_bounds.proofs.Casts.{scaled-cast}
 use Rattle.int_bounds.proofs.Corners.{more-times}

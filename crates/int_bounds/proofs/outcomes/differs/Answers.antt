@@ -1,0 +1,9 @@
+use Rattle.std.proofs.Common.{not, ap}
+use Rattle.std.specs.Ordering.{int_eq}
+use Rattle.int_bounds.proofs.Equal.{equal-same, equal-apart}
+use Rattle.int_bounds.proofs.outcomes.differs.Goals as goal
+
+pub returns : goal.returns
+returns c = λ x y a b. c.outcomes.ensures (not (int_eq x y))
+    (λ h. ap not (equal-apart x y (λ e. c.are_apart.ensures h x a (rw e b))))
+    (λ h. ap not (equal-same x y (c.are_one.ensures h x y a b)))

@@ -1,0 +1,4 @@
+pub mod Within
+pub mod Values
+pub mod Narrows
+pub mod Near

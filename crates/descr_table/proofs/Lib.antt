@@ -7,3 +7,4 @@ pub mod Steps
 pub mod Again
 pub mod Takes
 pub mod PartsText
+pub mod Counts

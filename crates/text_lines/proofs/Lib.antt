@@ -3,3 +3,4 @@ pub mod WordLaws
 pub mod Written
 pub mod Digits
 pub mod FirstBadLaws
+pub mod Integers

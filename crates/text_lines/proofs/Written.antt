@@ -6,18 +6,12 @@ use Rattle.std.specs.List.{list_all, AllByRecursion}
 use Rattle.std.proofs.lemmas.Bool.Decides.{nat_tests}
 use Rattle.text_lines.specs.Lines.{in_front, lines}
 use Rattle.text_lines.specs.Words.{words, is_mark, is_word_byte, is_letter, is_digit, is_name_byte, begins_name, begins_word, is_name, is_plain}
-use Rattle.text_lines.specs.Written.{spaced}
+use Rattle.text_lines.specs.Written.{spaced, IsWord}
 use Rattle.text_lines.proofs.WordLaws.{alone, joined, no_space_in_word}
 
 both : (a b : Bool) → (a && b) ≡ true → (a ≡ true) × (b ≡ true)
 both true b e = (refl, e)
 both false b e = absurd cc
-
--- a word of word bytes that can be written in a line
-pub record IsWord (w : List ℕ) : Type 0 where
-  pub some : 0 < length w
-  pub bytes : list_all is_word_byte w ≡ true
-  pub plain : is_plain w ≡ true
 
 words_word : (c : ℕ) (cs rest : List ℕ) → list_all is_word_byte (c ∷ cs) ≡ true → begins_word rest ≡ false → words ((c ∷ cs) ++ rest) ≡ (c ∷ cs) ∷ words rest
 words_word c [] rest h e =

@@ -153,3 +153,16 @@ get-append (y ∷ xs) ys (suc k) x e = get-append xs ys k x e
 pub get-middle : {X : Type 0} (xs : List X) (x : X) (ys : List X) → slice_get (xs ++ x ∷ ys) (length xs) ≡ Some x
 get-middle [] x ys = refl
 get-middle (y ∷ xs) x ys = get-middle xs x ys
+
+within_by : (b r : Bool) (i n : ℕ) → (b || r) ≡ true → (r ≡ true → i < n) → cond (not b) (1 + i) 0 < suc n
+within_by true r i n e f = omega arith
+within_by false r i n e f = omega (arith, f e)
+
+first_within : (m : List ℕ) (names : Names) → has_name m names ≡ true → first m names < length names
+first_within m [] e = absurd cc
+first_within m (x ∷ xs) e = within_by (bytes_eq m x) (has_name m xs) (first m xs) (length xs) e (first_within m xs)
+
+pub known_within : (m : List ℕ) (names : Names) → has_name m names ≡ true → place m names < length names
+known_within m names e =
+    let lt = first_within m names e in
+    rw (lt-ltb (first m names) (length names) lt) lt

@@ -8,3 +8,9 @@ pub mod Again
 pub mod Takes
 pub mod PartsText
 pub mod Counts
+pub mod Readable
+pub mod Clear
+pub mod Keeps
+pub mod KeepsRoots
+pub mod Ranges
+pub mod LinesKept

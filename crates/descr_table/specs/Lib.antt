@@ -6,3 +6,4 @@ pub mod Reading
 pub mod Draft
 pub mod Spelling
 pub mod Writing
+pub mod InRange

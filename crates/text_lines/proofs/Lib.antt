@@ -4,3 +4,4 @@ pub mod Written
 pub mod Digits
 pub mod FirstBadLaws
 pub mod Integers
+pub mod Pieces

@@ -13,7 +13,7 @@ both : (a b : Bool) → (a && b) ≡ true → (a ≡ true) × (b ≡ true)
 both true b e = (refl, e)
 both false b e = absurd cc
 
-words_word : (c : ℕ) (cs rest : List ℕ) → list_all is_word_byte (c ∷ cs) ≡ true → begins_word rest ≡ false → words ((c ∷ cs) ++ rest) ≡ (c ∷ cs) ∷ words rest
+pub words_word : (c : ℕ) (cs rest : List ℕ) → list_all is_word_byte (c ∷ cs) ≡ true → begins_word rest ≡ false → words ((c ∷ cs) ++ rest) ≡ (c ∷ cs) ∷ words rest
 words_word c [] rest h e =
     let p = both (is_word_byte c) true h in
     let no : (is_word_byte c && begins_word rest) ≡ false = rw (p.0, e) refl in
@@ -44,7 +44,7 @@ words_spaced [] h = refl
 words_spaced (w ∷ []) h = ap words (append-nil w) ∙ word_alone w h.0
 words_spaced (w ∷ v ∷ ws) h = word_then_space w (spaced (v ∷ ws)) h.0 ∙ ap (λ (x : List (List ℕ)). w ∷ x) (words_spaced (v ∷ ws) h.1)
 
-list_all-append : (p : ℕ → Bool) (xs ys : List ℕ) → list_all p xs ≡ true → list_all p ys ≡ true → list_all p (xs ++ ys) ≡ true
+pub list_all-append : (p : ℕ → Bool) (xs ys : List ℕ) → list_all p xs ≡ true → list_all p ys ≡ true → list_all p (xs ++ ys) ≡ true
 list_all-append p [] ys a b = b
 list_all-append p (x ∷ xs) ys a b =
     let h = both (p x) (list_all p xs) a in

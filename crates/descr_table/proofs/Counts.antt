@@ -5,7 +5,7 @@ use Rattle.std.specs.Str.{bytes_eq}
 use Rattle.std.specs.List.{position_or_len, list_any}
 use Rattle.std.proofs.lemmas.Slice.Eq.{bytes_eq-Decides}
 use Rattle.std.proofs.lemmas.Bool.{lt-ltb}
-use Rattle.std.proofs.lemmas.List.{map-append}
+use Rattle.std.proofs.lemmas.List.{map-append, map-id}
 use Rattle.text_lines.specs.Names.{has_name, number_of}
 use Rattle.descr_table.specs.Meaning.{place}
 
@@ -154,15 +154,8 @@ pub get-middle : {X : Type 0} (xs : List X) (x : X) (ys : List X) → slice_get 
 get-middle [] x ys = refl
 get-middle (y ∷ xs) x ys = get-middle xs x ys
 
-within_by : (b r : Bool) (i n : ℕ) → (b || r) ≡ true → (r ≡ true → i < n) → cond (not b) (1 + i) 0 < suc n
-within_by true r i n e f = omega arith
-within_by false r i n e f = omega (arith, f e)
-
-first_within : (m : List ℕ) (names : Names) → has_name m names ≡ true → first m names < length names
-first_within m [] e = absurd cc
-first_within m (x ∷ xs) e = within_by (bytes_eq m x) (has_name m xs) (first m xs) (length xs) e (first_within m xs)
-
-pub known_within : (m : List ℕ) (names : Names) → has_name m names ≡ true → place m names < length names
-known_within m names e =
-    let lt = first_within m names e in
-    rw (lt-ltb (first m names) (length names) lt) lt
+pub named_at : (m : List ℕ) (names : Names) → has_name m names ≡ true → slice_get names (place m names) ≡ Some m
+named_at m names e =
+    let all : map (λ (x : List ℕ). x) names ≡ names = map-id names in
+    let r = row_of (λ (x : List ℕ). x) names m (subst (λ (l : Names). has_name m l ≡ true) (sym all) e) in
+    subst (λ (l : Names). slice_get names (place m l) ≡ Some m) all (r.at ∙ ap Some r.named)

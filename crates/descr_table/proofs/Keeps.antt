@@ -31,7 +31,7 @@ use Rattle.descr_table.specs.declared.known.Known.{Known}
 use Rattle.descr_table.specs.Known.{names_of, is_named, is_class, is_class_if, repeats}
 use Rattle.descr_table.specs.Meaning.{is_misplaced, is_twice, is_unknown, is_undefined, is_bad_initial, is_bad_field, is_bad_part, is_bad_item, is_of, row_at, place, fields_in, fields_of, full, over, or_else, bytes_of, limit_at, refusal, with_field, given_for, initial_of, initial_or, default_of, field_initial, put_at, put}
 use Rattle.descr_table.specs.Spelling.{IsForm, IsNameOrNone, IsReadName}
-use Rattle.descr_table.proofs.Counts.{count, one_if, count-append, count-last, count_free, one_more, number_is, row_of, found, within, known_within, get-map, get-append, same}
+use Rattle.descr_table.proofs.Counts.{count, one_if, count-append, count-last, count_free, one_more, number_is, row_of, found, within, get-map, get-append, same}
 use Rattle.descr_table.proofs.Clear.{IsClear, clear, or_false, not_false, none_of, else_none, full_none, over_none}
 use Rattle.descr_table.proofs.Few.{length-with_field}
 use Rattle.descr_table.proofs.Noted.{map-with_field, vtables-with_field, bytes_put, fits}
@@ -40,11 +40,11 @@ use Rattle.descr_table.proofs.Readable.{Each, each-append, each-last, each-weake
 abbrev Names : Type 0
 Names = List (List ℕ)
 
--- a written integer is a word
+-- a written integer is a word of 64 bits, and a written name isn't NULL
 abbrev pub IsRanged : Given → Type 0
 IsRanged (given.Int z) = mag z < 2 ^ 63
 IsRanged given.Null = Unit {0}
-IsRanged (given.Name n) = Unit {0}
+IsRanged (given.Name n) = bytes_eq n (codes "NULL") ≡ false
 
 abbrev pub AreRanged : Form → Type 0
 AreRanged (Size name vtable) = Unit {0}

@@ -41,20 +41,20 @@ use Rattle.descr_table.proofs.Ranges.{in_range}
 abbrev Names : Type 0
 Names = List (List ℕ)
 
--- ---- a written integer is a word
+-- ---- a written integer is a word of 64 bits, and a written name isn't NULL
 
 bound : (o : Option ℤ) (v : Given) → (o >>= λ z. Some (given.Int z)) ≡ Some v → ((z : ℤ) → o ≡ Some z → mag z < 2 ^ 63) → IsRanged v
 bound None v e f = absurd cc
 bound (Some z) v e f = let is : given.Int z ≡ v = cc in subst IsRanged is (f z refl)
 
-given_by : (null name : Bool) (w : List ℕ) (v : Given) → cond null (Some given.Null) (cond name (Some (given.Name w)) (integer_of w >>= λ z. Some (given.Int z))) ≡ Some v → IsRanged v
-given_by true name w v e = let is : given.Null ≡ v = cc in subst IsRanged is tt
-given_by false true w v e = let is : given.Name w ≡ v = cc in subst IsRanged is tt
-given_by false false w v e = bound (integer_of w) v e (integer_ranged w)
+given_by : (null name : Bool) (w : List ℕ) (v : Given) → bytes_eq w (codes "NULL") ≡ null → cond null (Some given.Null) (cond name (Some (given.Name w)) (integer_of w >>= λ z. Some (given.Int z))) ≡ Some v → IsRanged v
+given_by true name w v n e = let is : given.Null ≡ v = cc in subst IsRanged is tt
+given_by false true w v n e = let is : given.Name w ≡ v = cc in subst IsRanged is n
+given_by false false w v n e = bound (integer_of w) v e (integer_ranged w)
 
 given_ranged : (w : List ℕ) (v : Given) → given_of w ≡ Some v → IsRanged v
 unfolding given_of
-given_ranged w v e = given_by (bytes_eq w (codes "NULL")) (is_name w) w v e
+given_ranged w v e = given_by (bytes_eq w (codes "NULL")) (is_name w) w v refl e
 
 parts_ranged : (ws : Names) (ps : List Part) → SpellsParts ws ps → Each (λ (p : Part). IsRanged p.value) ps
 parts_ranged [] [] h = tt

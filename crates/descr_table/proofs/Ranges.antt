@@ -122,7 +122,7 @@ initial_named d t kind.Int initial.Null e h = absurd h
 initial_named d t kind.Int (initial.Ptr j) e h = absurd h
 initial_named d t kind.Ref (initial.Int z) e h = absurd h
 initial_named d t kind.Ref initial.Null e h = tt
-initial_named d t kind.Ref (initial.Ptr j) e h = omega (arith, h)
+initial_named d t kind.Ref (initial.Ptr j) e h = omega (arith, within d j h.0 h.1)
 
 kinds_held : (d : Names) (t : Table) (fs : List ℕ) (ps : List Initial) → HoldFields d t.fields fs ps → map kind_of_initial ps ≡ map (kind_of_field t) fs
 kinds_held d t [] [] h = refl

@@ -153,14 +153,14 @@ pub record IsCall (fields : List FieldRow) (row : CallRow) : Type 0 where
   pub reads : Each (Reads fields) row.reads
   pub writes : Each (Writes fields) row.writes
 
--- a value of the kind; a name is one of those that are defined
+-- a value of the kind; a name is one of those that are defined, and not the word NULL
 abbrev pub Holds : Names → Kind → Initial → Type 0
 Holds d kind.Int (initial.Int z) = mag z < 2 ^ 63
 Holds d kind.Int initial.Null = ⊥
 Holds d kind.Int (initial.Ptr k) = ⊥
 Holds d kind.Ref (initial.Int z) = ⊥
 Holds d kind.Ref initial.Null = Unit {0}
-Holds d kind.Ref (initial.Ptr k) = k < length d
+Holds d kind.Ref (initial.Ptr k) = (n : List ℕ) × (slice_get d k ≡ Some n) × (bytes_eq n (codes "NULL") ≡ false)
 
 -- one value for each field
 abbrev pub HoldFields : Names → List FieldRow → List ℕ → List Initial → Type 0

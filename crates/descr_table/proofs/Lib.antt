@@ -14,3 +14,6 @@ pub mod Keeps
 pub mod KeepsRoots
 pub mod Ranges
 pub mod LinesKept
+pub mod RowForms
+pub mod ShapesBack
+pub mod FieldsBack

@@ -38,7 +38,7 @@ all_weaker P Q f xs h = all_of Q xs (each-weaker P Q f xs h)
 
 -- ---- sizes and arrays
 
-order_le : (s a : ℕ) (ss : List ShapeOf) (n m : ℕ) → InOrder s a ss n m → (s ≤ n) × (a ≤ m)
+pub order_le : (s a : ℕ) (ss : List ShapeOf) (n m : ℕ) → InOrder s a ss n m → (s ≤ n) × (a ≤ m)
 order_le s a [] n m h = (omega (arith, h.0), omega (arith, h.1))
 order_le s a (shape.Size k ∷ ss) n m h = let r = order_le (suc s) a ss n m h.1 in (omega (arith, r.0), r.1)
 order_le s a (shape.Array k ∷ ss) n m h = let r = order_le s (suc a) ss n m h.1 in (r.0, omega (arith, r.1))

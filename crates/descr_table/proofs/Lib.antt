@@ -17,3 +17,4 @@ pub mod LinesKept
 pub mod RowForms
 pub mod ShapesBack
 pub mod FieldsBack
+pub mod CallsBack

@@ -18,3 +18,4 @@ pub mod RowForms
 pub mod ShapesBack
 pub mod FieldsBack
 pub mod CallsBack
+pub mod RootsBack

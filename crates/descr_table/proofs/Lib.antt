@@ -19,3 +19,5 @@ pub mod ShapesBack
 pub mod FieldsBack
 pub mod CallsBack
 pub mod RootsBack
+pub mod LinesSay
+pub mod RoundTrip

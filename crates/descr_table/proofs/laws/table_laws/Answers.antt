@@ -1,4 +1,3 @@
-use Rattle.descr_table.proofs.RootsBack.{roots_go}
 use Rattle.text_lines.specs.Lines.{lines}
 use Rattle.text_lines.proofs.FirstBadLaws.{first_bad}
 use Rattle.descr_table.specs.Meaning.{nothing}

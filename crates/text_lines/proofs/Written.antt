@@ -1,11 +1,11 @@
 -- What was written is read again.
-use Rattle.std.proofs.Common.{◌≡◌, ℕ, suc, ◌+◌, ◌<◌, ◌≤◌, Bool, true, false, cond, eqb, leb, List, [], ◌∷◌, ◌++◌, length, refl, sym, ap, subst, ◌∙◌, arith, append_assoc}
+use Rattle.std.proofs.Common.{◌≡◌, ℕ, Bool, true, false, eqb, leb, List, [], ◌∷◌, ◌++◌, length, refl, sym, ap, ◌∙◌, arith}
 use Rattle.std.proofs.lemmas.List.{append-nil}
-use Rattle.std.specs.Prelude.{◌||◌, ◌&&◌, not}
+use Rattle.std.specs.Prelude.{◌&&◌}
 use Rattle.std.specs.List.{list_all, AllByRecursion}
 use Rattle.std.proofs.lemmas.Bool.Decides.{nat_tests}
 use Rattle.text_lines.specs.Lines.{in_front, lines}
-use Rattle.text_lines.specs.Words.{words, is_mark, is_word_byte, is_letter, is_digit, is_name_byte, begins_name, begins_word, is_name, is_plain}
+use Rattle.text_lines.specs.Words.{words, is_mark, is_word_byte, is_letter, is_name_byte, begins_word, is_name, is_plain}
 use Rattle.text_lines.specs.Written.{spaced, IsWord}
 use Rattle.text_lines.proofs.WordLaws.{alone, joined, no_space_in_word}
 

@@ -1,14 +1,10 @@
 -- The lines of calls and functions that write a table are read back.
-use Rattle.std.proofs.Common.{◌≡◌, ℕ, zero, suc, ◌+◌, ◌<◌, ◌≤◌, Bool, true, false, cond, List, [], ◌∷◌, ◌++◌, length, map, Option, Some, None, refl, sym, ap, subst, ◌∙◌, arith, append_assoc, length-append}
-use Rattle.std.specs.Prelude.{slice_get, option_to_list, nat_eq, not, ◌||◌}
+use Rattle.std.proofs.Common.{◌≡◌, ℕ, ◌+◌, ◌<◌, ◌≤◌, true, false, List, [], ◌∷◌, ◌++◌, length, map, Some, refl, sym, ap, subst, ◌∙◌, arith, append_assoc, length-append}
+use Rattle.std.specs.Prelude.{slice_get, option_to_list, not, ◌||◌}
 use Rattle.std.specs.Str.{bytes_eq}
 use Rattle.std.specs.List.{flat_map}
-use Rattle.std.proofs.lemmas.List.{map-append, append-nil, nil_from_length}
-use Rattle.std.proofs.lemmas.List.Concat.{flat_map-append}
+use Rattle.std.proofs.lemmas.List.{append-nil}
 use Rattle.text_lines.specs.Names.{has_name}
-use Rattle.trace_ops.specs.InRange.{places_from}
-use Rattle.trace_ops.specs.declared.table.ShapeOf.{ShapeOf}
-use Rattle.trace_ops.specs.declared.table.ShapeOf.TheVariants as shape
 use Rattle.trace_ops.specs.declared.table.SizeRow.{SizeRow}
 use Rattle.trace_ops.specs.declared.table.FieldRow.{FieldRow}
 use Rattle.trace_ops.specs.declared.table.ArrayRow.{ArrayRow}
@@ -16,13 +12,11 @@ use Rattle.trace_ops.specs.declared.table.CallRow.{CallRow}
 use Rattle.trace_ops.specs.declared.table.PrebuiltRow.{PrebuiltRow}
 use Rattle.trace_ops.specs.declared.table.Table.{Table}
 use Rattle.trace_ops.specs.declared.table.What.TheVariants as what
-use Rattle.descr_table.specs.declared.form.Form.{Form}
-use Rattle.descr_table.specs.Known.{names_of, is_named, is_class, is_class_if}
-use Rattle.descr_table.proofs.Counts.{count, one_if, count-append, count_free, free_count, itself, is_known, place_is, within, get-map, get-middle}
-use Rattle.descr_table.proofs.Readable.{Each, length-last, InOrder, fields_at, Listing, listing_field, places-last, IsSize, names_in, classes_in, IsReadable}
+use Rattle.descr_table.proofs.Counts.{count, one_if, count-append, free_count, itself, is_known, place_is, get-map}
+use Rattle.descr_table.proofs.Readable.{Each, IsReadable}
 use Rattle.std.specs.List.{list_any}
 use Rattle.std.proofs.lemmas.List.{length-map}
-use Rattle.descr_table.specs.declared.form.Form.TheVariants.{Call, Function}
+use Rattle.descr_table.specs.declared.form.Form.TheVariants.{Function}
 use Rattle.descr_table.specs.Meaning.{is_misplaced, is_twice, is_unknown, is_bad_initial, or_else, full, over, limit_at, place, put_at, put}
 use Rattle.descr_table.specs.Writing.{field_name, field_name_in}
 use Rattle.descr_table.proofs.Counts.{number_is}
@@ -31,7 +25,7 @@ use Rattle.text_lines.specs.Names.{number_of}
 use Rattle.descr_table.proofs.Clear.{IsClear, not_refused, false_or, false_not, of_none, none_full, none_over, none_else}
 use Rattle.descr_table.proofs.Readable.{Reads, Writes, IsCall}
 use Rattle.descr_table.proofs.RowForms.{call_form, Goes}
-use Rattle.descr_table.proofs.ShapesBack.{stands_in, count_front}
+use Rattle.descr_table.proofs.ShapesBack.{stands_in}
 
 abbrev Names : Type 0
 Names = List (List ℕ)
@@ -110,8 +104,7 @@ call_put d t done r call h =
 pub calls_go : (d : Names) (t : Table) (done rest : List CallRow) → t.calls ≡ done ++ rest → Each (IsCall t.fields) rest → IsReadable d t → Goes d (rows_so_far t done [] []) (map (λ r. call_form t r) rest) (rows_so_far t t.calls [] [])
 calls_go d t done [] e calls h = ap (λ (cs : List CallRow). rows_so_far t cs [] []) (sym (e ∙ append-nil done))
 calls_go d t done (r ∷ rest) e calls h =
-    let more : Goes d (rows_so_far t (done ++ r ∷ []) [] []) (map (λ r. call_form t r) rest) (rows_so_far t t.calls [] []) = calls_go d t (done ++ r ∷ []) rest (e ∙ sym (append_assoc done (r ∷ []) rest)) calls.1 h in
-    (
+    let more : Goes d (rows_so_far t (done ++ r ∷ []) [] []) (map (λ r. call_form t r) rest) (rows_so_far t t.calls [] []) = calls_go d t (done ++ r ∷ []) rest (e ∙ sym (append_assoc done (r ∷ []) rest)) calls.1 h in (
       not_refused (call_form t r) d (rows_so_far t done [] []) (call_clear d t done r rest e calls.0 h),
       subst (λ (x : Table). Goes d x (map (λ r. call_form t r) rest) (rows_so_far t t.calls [] [])) (sym (call_put d t done r calls.0 h)) more,
     )

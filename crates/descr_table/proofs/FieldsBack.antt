@@ -1,34 +1,22 @@
 -- The lines of fields that write a table are read back.
-use Rattle.std.proofs.Common.{◌≡◌, ℕ, zero, suc, ◌+◌, ◌<◌, ◌≤◌, Bool, true, false, cond, List, [], ◌∷◌, ◌++◌, length, map, Option, Some, None, refl, sym, ap, subst, ◌∙◌, arith, append_assoc, length-append, zero-add}
-use Rattle.std.specs.Prelude.{slice_get, option_to_list, nat_eq, not, ◌||◌}
-use Rattle.std.specs.Str.{bytes_eq}
-use Rattle.std.specs.List.{flat_map}
-use Rattle.std.proofs.lemmas.List.{map-append, append-nil, nil_from_length}
-use Rattle.std.proofs.lemmas.List.Concat.{flat_map-append}
+use Rattle.std.proofs.Common.{◌≡◌, ℕ, zero, suc, ◌+◌, ◌<◌, ◌≤◌, Bool, true, false, cond, List, [], ◌∷◌, ◌++◌, length, map, Some, refl, sym, ap, subst, ◌∙◌, arith, append_assoc, zero-add}
+use Rattle.std.specs.Prelude.{slice_get, nat_eq, ◌||◌}
+use Rattle.std.proofs.lemmas.List.{append-nil}
 use Rattle.text_lines.specs.Names.{has_name}
 use Rattle.trace_ops.specs.InRange.{places_from}
-use Rattle.trace_ops.specs.declared.table.ShapeOf.{ShapeOf}
-use Rattle.trace_ops.specs.declared.table.ShapeOf.TheVariants as shape
 use Rattle.trace_ops.specs.declared.table.SizeRow.{SizeRow}
 use Rattle.trace_ops.specs.declared.table.FieldRow.{FieldRow}
 use Rattle.trace_ops.specs.declared.table.ArrayRow.{ArrayRow}
-use Rattle.trace_ops.specs.declared.table.CallRow.{CallRow}
-use Rattle.trace_ops.specs.declared.table.PrebuiltRow.{PrebuiltRow}
 use Rattle.trace_ops.specs.declared.table.Table.{Table}
 use Rattle.trace_ops.specs.declared.table.What.TheVariants as what
-use Rattle.descr_table.specs.declared.form.Form.{Form}
-use Rattle.descr_table.specs.declared.form.Form.TheVariants.{Size, Field, Array}
-use Rattle.descr_table.specs.Known.{names_of, is_named, is_class, is_class_if}
-use Rattle.descr_table.specs.Meaning.{nothing, is_misplaced, is_twice, is_unknown, is_bad_initial, limit_at, refusal, place, fields_in, with_field, put_at, put}
+use Rattle.descr_table.specs.Meaning.{is_misplaced, is_twice, is_unknown, is_bad_initial, limit_at, place, fields_in, with_field, put_at, put}
 use Rattle.descr_table.specs.Writing.{size_name, size_name_in}
-use Rattle.descr_table.proofs.Counts.{count, one_if, count-append, count_free, free_count, itself, is_known, place_is, within, get-map, get-middle}
+use Rattle.descr_table.proofs.Counts.{count, free_count, is_known, place_is, get-map}
 use Rattle.descr_table.proofs.Clear.{IsClear, not_refused, false_or, false_not, none_full}
-use Rattle.descr_table.proofs.Readable.{Each, length-last, InOrder, fields_at, Listing, listing_field, places-last, fields-last, IsSize, names_in, classes_in, IsReadable}
+use Rattle.descr_table.proofs.Readable.{Each, length-last, fields_at, Listing, listing_field, fields-last, IsSize, IsReadable}
 use Rattle.descr_table.proofs.RowForms.{field_form, Goes}
-use Rattle.descr_table.proofs.ShapesBack.{stands_in, count_front, shapes_so_far}
+use Rattle.descr_table.proofs.ShapesBack.{stands_in, shapes_so_far}
 use Rattle.descr_table.proofs.KeepsRoots.{listing_at}
-use Rattle.descr_table.proofs.Few.{length-with_field}
-use Rattle.descr_table.proofs.Noted.{map-with_field}
 
 abbrev Names : Type 0
 Names = List (List ℕ)
@@ -159,8 +147,7 @@ field_put d t done f lt h =
 pub fields_go : (d : Names) (t : Table) (done rest : List FieldRow) → t.fields ≡ done ++ rest → Each (λ (f : FieldRow). f.size < length t.sizes) rest → IsReadable d t → Goes d (fields_so_far t done) (map (λ r. field_form t r) rest) (fields_so_far t t.fields)
 fields_go d t done [] e owned h = ap (λ (fs : List FieldRow). fields_so_far t fs) (sym (e ∙ append-nil done))
 fields_go d t done (f ∷ rest) e owned h =
-    let more : Goes d (fields_so_far t (done ++ f ∷ [])) (map (λ r. field_form t r) rest) (fields_so_far t t.fields) = fields_go d t (done ++ f ∷ []) rest (e ∙ sym (append_assoc done (f ∷ []) rest)) owned.1 h in
-    (
+    let more : Goes d (fields_so_far t (done ++ f ∷ [])) (map (λ r. field_form t r) rest) (fields_so_far t t.fields) = fields_go d t (done ++ f ∷ []) rest (e ∙ sym (append_assoc done (f ∷ []) rest)) owned.1 h in (
       not_refused (field_form t f) d (fields_so_far t done) (field_clear d t done f rest e owned.0 h),
       subst (λ (x : Table). Goes d x (map (λ r. field_form t r) rest) (fields_so_far t t.fields)) (sym (field_put d t done f owned.0 h)) more,
     )

@@ -1,17 +1,15 @@
 -- What holds of the table that is read is kept by each line.
-use Rattle.std.proofs.Common.{◌≡◌, ℕ, zero, suc, ◌+◌, ◌*◌, ◌<◌, ◌≤◌, ◌^◌, Bool, true, false, cond, eqb, List, [], ◌∷◌, ◌++◌, length, map, Option, Some, None, refl, sym, ap, subst, ◌∙◌, arith, inl, inr, ◌⊎◌}
-use Rattle.std.specs.Prelude.{◌||◌, not, slice_get, option_to_list, codes, unwrap_or, nat_eq}
+use Rattle.std.proofs.Common.{◌≡◌, ℕ, zero, suc, ◌+◌, ◌<◌, ◌≤◌, ◌^◌, Bool, true, false, eqb, List, [], ◌∷◌, ◌++◌, length, map, Option, Some, None, refl, sym, ap, subst, ◌∙◌, arith}
+use Rattle.std.specs.Prelude.{◌||◌, not, slice_get, option_to_list, codes}
 use Rattle.std.specs.Str.{bytes_eq}
-use Rattle.std.specs.List.{AllByRecursion, list_any, flat_map}
+use Rattle.std.specs.List.{list_any, flat_map}
 use Rattle.std.proofs.lemmas.Bool.{eqb-true}
 use Rattle.std.proofs.lemmas.List.{map-append, length-map, nil_from_length, append-nil}
 use Rattle.std.proofs.lemmas.List.Concat.{flat_map-append}
 use lib.Signed.{mag}
 use Rattle.text_lines.specs.Words.{is_name}
-use Rattle.text_lines.specs.Names.{has_name, number_of}
-use Rattle.trace_ops.specs.InRange.{places_from}
+use Rattle.text_lines.specs.Names.{has_name}
 use Rattle.trace_ops.specs.declared.trace.Kind.{Kind}
-use Rattle.trace_ops.specs.declared.trace.Kind.TheVariants as kind
 use Rattle.trace_ops.specs.declared.table.ShapeOf.{ShapeOf}
 use Rattle.trace_ops.specs.declared.table.ShapeOf.TheVariants as shape
 use Rattle.trace_ops.specs.declared.table.SizeRow.{SizeRow}
@@ -27,15 +25,14 @@ use Rattle.descr_table.specs.declared.form.Form.TheVariants.{Size, Field, Array,
 use Rattle.descr_table.specs.declared.form.Given.{Given}
 use Rattle.descr_table.specs.declared.form.Given.TheVariants as given
 use Rattle.descr_table.specs.declared.form.Part.{Part}
-use Rattle.descr_table.specs.declared.known.Known.{Known}
-use Rattle.descr_table.specs.Known.{names_of, is_named, is_class, is_class_if, repeats}
-use Rattle.descr_table.specs.Meaning.{is_misplaced, is_twice, is_unknown, is_undefined, is_bad_initial, is_bad_field, is_bad_part, is_bad_item, is_of, row_at, place, fields_in, fields_of, full, over, or_else, bytes_of, limit_at, refusal, with_field, given_for, initial_of, initial_or, default_of, field_initial, put_at, put}
-use Rattle.descr_table.specs.Spelling.{IsForm, IsNameOrNone, IsReadName}
-use Rattle.descr_table.proofs.Counts.{count, one_if, count-append, count-last, count_free, one_more, number_is, row_of, found, within, get-map, get-append, same}
-use Rattle.descr_table.proofs.Clear.{IsClear, clear, or_false, not_false, none_of, else_none, full_none, over_none}
+use Rattle.descr_table.specs.Known.{names_of, is_named, is_class, is_class_if}
+use Rattle.descr_table.specs.Meaning.{is_misplaced, is_twice, is_unknown, place, fields_in, full, over, or_else, bytes_of, limit_at, with_field, put_at, put}
+use Rattle.descr_table.specs.Spelling.{IsForm, IsReadName}
+use Rattle.descr_table.proofs.Counts.{count, one_if, count-last, count_free, one_more, row_of, within, get-append}
+use Rattle.descr_table.proofs.Clear.{IsClear, or_false, not_false, none_of, else_none, full_none, over_none}
 use Rattle.descr_table.proofs.Few.{length-with_field}
-use Rattle.descr_table.proofs.Noted.{map-with_field, vtables-with_field, bytes_put, fits}
-use Rattle.descr_table.proofs.Readable.{Each, each-append, each-last, each-weaker, length-last, InOrder, one_size, one_array, fields_at, Listing, listing_field, listing_size, fields_none, places_hold, Reads, Writes, IsCall, Holds, HoldFields, HasBody, IsRoot, IsSize, names_in, classes_in, IsReadable}
+use Rattle.descr_table.proofs.Noted.{map-with_field, vtables-with_field}
+use Rattle.descr_table.proofs.Readable.{Each, each-last, each-weaker, length-last, InOrder, one_size, one_array, listing_field, listing_size, fields_none, Reads, Writes, IsCall, HasBody, IsRoot, IsSize, names_in, classes_in, IsReadable}
 
 abbrev Names : Type 0
 Names = List (List ℕ)

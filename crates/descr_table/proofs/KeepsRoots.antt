@@ -1,41 +1,29 @@
 -- What holds of the table that is read is kept by a line of a prebuilt object.
-use Rattle.std.proofs.Common.{◌≡◌, ℕ, zero, suc, ◌+◌, ◌*◌, ◌<◌, ◌≤◌, ◌^◌, Bool, true, false, cond, eqb, List, [], ◌∷◌, ◌++◌, length, map, Option, Some, None, refl, sym, ap, subst, ◌∙◌, arith, inl, inr, ◌⊎◌, zero-add}
-use Rattle.std.specs.Prelude.{◌||◌, not, slice_get, option_to_list, codes, unwrap_or, nat_eq}
+use Rattle.std.proofs.Common.{◌≡◌, ℕ, zero, suc, ◌+◌, ◌≤◌, Bool, true, false, cond, eqb, List, [], ◌∷◌, ◌++◌, map, Option, Some, None, refl, sym, ap, subst, ◌∙◌, arith, zero-add}
+use Rattle.std.specs.Prelude.{◌||◌, not, slice_get, nat_eq}
 use Rattle.std.specs.Str.{bytes_eq}
-use Rattle.std.specs.List.{AllByRecursion, list_any, flat_map}
-use Rattle.std.proofs.lemmas.Bool.{eqb-true}
-use Rattle.std.proofs.lemmas.List.{map-append, length-map, nil_from_length, append-nil}
-use Rattle.std.proofs.lemmas.List.Concat.{flat_map-append}
-use lib.Signed.{mag}
-use Rattle.text_lines.specs.Words.{is_name}
+use Rattle.std.specs.List.{list_any}
 use Rattle.text_lines.specs.Names.{has_name, number_of}
-use Rattle.trace_ops.specs.InRange.{places_from}
 use Rattle.trace_ops.specs.declared.trace.Kind.{Kind}
 use Rattle.trace_ops.specs.declared.trace.Kind.TheVariants as kind
-use Rattle.trace_ops.specs.declared.table.ShapeOf.{ShapeOf}
 use Rattle.trace_ops.specs.declared.table.ShapeOf.TheVariants as shape
 use Rattle.trace_ops.specs.declared.table.SizeRow.{SizeRow}
 use Rattle.trace_ops.specs.declared.table.FieldRow.{FieldRow}
 use Rattle.trace_ops.specs.declared.table.ArrayRow.{ArrayRow}
-use Rattle.trace_ops.specs.declared.table.CallRow.{CallRow}
 use Rattle.trace_ops.specs.declared.table.PrebuiltRow.{PrebuiltRow}
-use Rattle.trace_ops.specs.declared.table.Initial.{Initial}
 use Rattle.trace_ops.specs.declared.table.Table.{Table}
-use Rattle.trace_ops.specs.declared.table.What.TheVariants as what
 use Rattle.descr_table.specs.declared.form.Form.{Form}
 use Rattle.descr_table.specs.declared.form.Form.TheVariants.{Size, Field, Array, Call, Function, Object, Items}
 use Rattle.descr_table.specs.declared.form.Given.{Given}
 use Rattle.descr_table.specs.declared.form.Given.TheVariants as given
 use Rattle.descr_table.specs.declared.form.Part.{Part}
-use Rattle.descr_table.specs.declared.known.Known.{Known}
-use Rattle.descr_table.specs.Known.{names_of, is_named, is_class, is_class_if, repeats}
-use Rattle.descr_table.specs.Meaning.{is_misplaced, is_twice, is_unknown, is_undefined, is_bad_initial, is_bad_field, is_bad_part, is_bad_item, is_of, row_at, place, fields_in, fields_of, full, over, or_else, bytes_of, limit_at, refusal, with_field, given_for, initial_of, initial_or, default_of, field_initial, put_at, put}
-use Rattle.descr_table.specs.Spelling.{IsForm, IsNameOrNone, IsReadName}
-use Rattle.descr_table.proofs.Counts.{count, one_if, count-append, count-last, count_free, one_more, number_is, row_of, found, within, named_at, get-map, get-append, same}
-use Rattle.descr_table.proofs.Clear.{IsClear, clear, or_false, not_false, none_of, else_none, full_none, over_none}
-use Rattle.descr_table.proofs.Few.{length-with_field}
-use Rattle.descr_table.proofs.Noted.{map-with_field, vtables-with_field, bytes_put, fits}
-use Rattle.descr_table.proofs.Readable.{Each, each-append, each-last, each-weaker, length-last, InOrder, one_size, one_array, fields_at, Listing, listing_field, listing_size, fields_none, places_hold, Reads, Writes, IsCall, Holds, HoldFields, HasBody, IsRoot, IsSize, names_in, classes_in, IsReadable}
+use Rattle.descr_table.specs.Known.{names_of, repeats}
+use Rattle.descr_table.specs.Meaning.{is_twice, is_unknown, is_undefined, is_bad_initial, is_bad_field, is_bad_item, is_of, row_at, place, fields_in, bytes_of, refusal, given_for, initial_of, initial_or, default_of, field_initial, put_at, put}
+use Rattle.descr_table.specs.Spelling.{IsForm}
+use Rattle.descr_table.proofs.Counts.{count, count_free, one_more, number_is, row_of, named_at, get-map, same}
+use Rattle.descr_table.proofs.Clear.{IsClear, clear, or_false, not_false, none_of}
+use Rattle.descr_table.proofs.Noted.{bytes_put, fits}
+use Rattle.descr_table.proofs.Readable.{Each, each-last, fields_at, Listing, places_hold, Holds, HoldFields, HasBody, IsRoot, IsReadable}
 use Rattle.descr_table.proofs.Keeps.{IsRanged, AreRanged, count-row, keeps_size, keeps_field, keeps_array, keeps_call, keeps_function}
 
 abbrev Names : Type 0

@@ -1,14 +1,12 @@
 -- What holds of the table that lines are read as.
-use Rattle.std.proofs.Common.{◌≡◌, ℕ, ℤ, pos, negsuc, zero, suc, ◌+◌, ◌-◌, ◌<◌, ◌≤◌, ◌^◌, Bool, true, false, cond, eqb, leb, List, [], ◌∷◌, ◌++◌, length, map, Option, Some, None, Result, Ok, Err, refl, sym, ap, subst, ◌∙◌, arith, inl, inr, ◌⊎◌}
-use Rattle.std.specs.Prelude.{◌-ℤ◌, codes}
+use Rattle.std.proofs.Common.{◌≡◌, ℕ, ℤ, suc, ◌<◌, ◌^◌, Bool, true, false, cond, List, [], ◌∷◌, map, Option, Some, None, Result, Ok, Err, refl, ap, subst, ◌∙◌, arith}
+use Rattle.std.specs.Prelude.{codes}
 use Rattle.std.specs.Str.{bytes_eq}
 use Rattle.std.specs.Result.{IfOk}
-use Rattle.std.specs.List.{list_any}
 use Rattle.std.proofs.lemmas.List.{length-map}
 use lib.Signed.{mag}
 use Rattle.text_lines.specs.Lines.{lines}
 use Rattle.text_lines.specs.Words.{is_name, is_plain, words}
-use Rattle.text_lines.specs.Names.{has_name, with_name}
 use Rattle.text_lines.specs.Numbers.{integer_of}
 use Rattle.text_lines.specs.Reading.{◌>>=◌, said, is_skipped, read_lines, ok_then}
 use Rattle.text_lines.proofs.Integers.{integer_ranged}

@@ -1,16 +1,14 @@
 -- The lines that write a table say the forms of its rows.
-use Rattle.std.proofs.Common.{◌≡◌, ℕ, ℤ, zero, suc, ◌+◌, ◌<◌, ◌≤◌, ◌^◌, Bool, true, false, cond, List, [], ◌∷◌, ◌++◌, length, map, Option, Some, None, refl, sym, ap, subst, ◌∙◌, arith, append_assoc}
+use Rattle.std.proofs.Common.{◌≡◌, ℕ, ℤ, zero, suc, ◌<◌, ◌^◌, Bool, true, false, List, [], ◌∷◌, ◌++◌, length, map, Option, Some, None, refl, sym, ap, subst, ◌∙◌, arith, append_assoc}
 use Rattle.std.specs.Prelude.{slice_get, codes}
 use Rattle.std.specs.Str.{bytes_eq}
 use Rattle.std.specs.Fmt.{signed_decimal}
 use Rattle.std.specs.List.{flat_map, list_all}
 use Rattle.std.proofs.lemmas.List.{append-nil, map-append}
-use Rattle.std.proofs.lemmas.Bool.{and_from}
 use lib.Signed.{mag}
 use Rattle.text_lines.specs.Lines.{lines}
 use Rattle.text_lines.specs.Words.{words, is_name, is_plain, is_mark, is_word_byte, is_letter, is_name_byte}
-use Rattle.text_lines.specs.Numbers.{integer_of}
-use Rattle.text_lines.specs.Reading.{◌>>=◌, said, is_skipped}
+use Rattle.text_lines.specs.Reading.{said, is_skipped}
 use Rattle.text_lines.specs.Written.{IsWord}
 use Rattle.text_lines.proofs.Written.{line_then_feed, name_is_word}
 use Rattle.text_lines.proofs.Integers.{integer_again, integer_is_word, integer_no_name}
@@ -28,19 +26,17 @@ use Rattle.trace_ops.specs.declared.table.Initial.{Initial}
 use Rattle.trace_ops.specs.declared.table.Initial.TheVariants as initial
 use Rattle.trace_ops.specs.declared.table.Table.{Table}
 use Rattle.descr_table.specs.declared.form.Form.{Form}
-use Rattle.descr_table.specs.declared.form.Form.TheVariants.{Size, Field, Array, Call, Function, Object, Items}
-use Rattle.descr_table.specs.declared.form.Given.{Given}
+use Rattle.descr_table.specs.declared.form.Form.TheVariants.{Function}
 use Rattle.descr_table.specs.declared.form.Given.TheVariants as given
 use Rattle.descr_table.specs.declared.form.Part.{Part}
 use Rattle.descr_table.specs.Form.{form_at}
 use Rattle.descr_table.specs.Words.{given_of}
 use Rattle.descr_table.specs.Spelling.{kind_letter, kind_word, kinds_word, result_word, immutable_words, vtable_words, listed_words, SpellsParts, SpellsItems, Spells, IsNameOrNone, IsReadName, IsForm}
-use Rattle.descr_table.specs.Meaning.{put}
-use Rattle.descr_table.specs.Writing.{size_name, field_name, array_name, prebuilt_name, field_name_in, array_name_in, size_name_in, fields_in, word_text, head_text, vtable_text, immutable_text, of_text, args_text, gives_text, names_text, list_text, value_text, part_text, parts_text, more_items, items_text, body_text, size_line, array_line, field_line, call_line, function_line, prebuilt_line, size_line_of, array_line_of, shape_line}
+use Rattle.descr_table.specs.Writing.{size_name, field_name, array_name, field_name_in, array_name_in, size_name_in, fields_in, word_text, head_text, vtable_text, immutable_text, of_text, args_text, gives_text, names_text, list_text, value_text, part_text, parts_text, more_items, items_text, body_text, size_line, array_line, field_line, call_line, function_line, prebuilt_line, size_line_of, array_line_of, shape_line}
 use Rattle.descr_table.proofs.Counts.{same}
 use Rattle.descr_table.proofs.Again.{form_again}
 use Rattle.descr_table.proofs.Readable.{Each, Reads, Writes, IsCall, Holds, HoldFields, HasBody, IsRoot, IsSize, IsReadable}
-use Rattle.descr_table.proofs.RowForms.{size_form, size_forms, array_form, array_forms, shape_forms, field_form, call_form, value_form, part_form, parts_form, body_form, root_form, one}
+use Rattle.descr_table.proofs.RowForms.{size_form, size_forms, array_form, array_forms, shape_forms, field_form, call_form, value_form, parts_form, body_form, root_form, one}
 use Rattle.descr_table.proofs.FieldsBack.{get_each, get_some}
 use Rattle.descr_table.proofs.RootsBack.{root_names, name_of}
 
@@ -250,10 +246,10 @@ field_block d t h r i =
     let size = get_some t.sizes r.size i.1 in
     let named : is_name (size_name t r.size) ≡ true = size_is_name d t r.size size.0 size.1 h in
     let says : Says (of_text (size_name t r.size) r.kind ++ immutable_text r.immutable) ((codes "of" ∷ size_name t r.size ∷ kind_word r.kind ∷ []) ++ immutable_words r.immutable) =
-        says_both (of_text (size_name t r.size) r.kind) (immutable_text r.immutable) (codes "of" ∷ size_name t r.size ∷ kind_word r.kind ∷ []) (immutable_words r.immutable) (of_says (size_name t r.size) r.kind (name_is_word (size_name t r.size) named)) (immutable_says r.immutable) in
+    says_both (of_text (size_name t r.size) r.kind) (immutable_text r.immutable) (codes "of" ∷ size_name t r.size ∷ kind_word r.kind ∷ []) (immutable_words r.immutable) (of_says (size_name t r.size) r.kind (name_is_word (size_name t r.size) named)) (immutable_says r.immutable) in
     block_line ((head_text (codes "field") r.name ++ of_text (size_name t r.size) r.kind) ++ immutable_text r.immutable) (field_form t r)
-        (line_as ((head_text (codes "field") r.name ++ of_text (size_name t r.size) r.kind) ++ immutable_text r.immutable) (head_text (codes "field") r.name ++ (of_text (size_name t r.size) r.kind ++ immutable_text r.immutable)) (field_form t r) (append_assoc (head_text (codes "field") r.name) (of_text (size_name t r.size) r.kind) (immutable_text r.immutable))
-        (head_line (codes "field") r.name (of_text (size_name t r.size) r.kind ++ immutable_text r.immutable) ((codes "of" ∷ size_name t r.size ∷ kind_word r.kind ∷ []) ++ immutable_words r.immutable) (field_form t r) key_field refl (name_is_word r.name i.0) says refl (i.0, named)))
+    (line_as ((head_text (codes "field") r.name ++ of_text (size_name t r.size) r.kind) ++ immutable_text r.immutable) (head_text (codes "field") r.name ++ (of_text (size_name t r.size) r.kind ++ immutable_text r.immutable)) (field_form t r) (append_assoc (head_text (codes "field") r.name) (of_text (size_name t r.size) r.kind) (immutable_text r.immutable))
+    (head_line (codes "field") r.name (of_text (size_name t r.size) r.kind ++ immutable_text r.immutable) ((codes "of" ∷ size_name t r.size ∷ kind_word r.kind ∷ []) ++ immutable_words r.immutable) (field_form t r) key_field refl (name_is_word r.name i.0) says refl (i.0, named)))
 
 -- ---- calls and functions
 
@@ -306,8 +302,8 @@ call_block d t h r c =
     let behind : Says (gives ++ (reads ++ writes)) ((codes "result" ∷ result_word r.result ∷ []) ++ (read_words ++ write_words)) = says_both gives (reads ++ writes) (codes "result" ∷ result_word r.result ∷ []) (read_words ++ write_words) (gives_say r.result) lists in
     let all : Says (args ++ (gives ++ (reads ++ writes))) ((codes "args" ∷ kinds_word r.args ∷ []) ++ ((codes "result" ∷ result_word r.result ∷ []) ++ (read_words ++ write_words))) = says_both args (gives ++ (reads ++ writes)) (codes "args" ∷ kinds_word r.args ∷ []) ((codes "result" ∷ result_word r.result ∷ []) ++ (read_words ++ write_words)) (args_say r.args) behind in
     block_line ((((head ++ args) ++ gives) ++ reads) ++ writes) (call_form t r)
-        (line_as ((((head ++ args) ++ gives) ++ reads) ++ writes) (head ++ (args ++ (gives ++ (reads ++ writes)))) (call_form t r) (regroup head args gives reads writes)
-        (head_line (codes "calldescr") r.name (args ++ (gives ++ (reads ++ writes))) ((codes "args" ∷ kinds_word r.args ∷ []) ++ ((codes "result" ∷ result_word r.result ∷ []) ++ (read_words ++ write_words))) (call_form t r) key_call refl (name_is_word r.name c.name) all refl (c.name, read_names d t r.reads c.reads h, write_names d t r.writes c.writes h)))
+    (line_as ((((head ++ args) ++ gives) ++ reads) ++ writes) (head ++ (args ++ (gives ++ (reads ++ writes)))) (call_form t r) (regroup head args gives reads writes)
+    (head_line (codes "calldescr") r.name (args ++ (gives ++ (reads ++ writes))) ((codes "args" ∷ kinds_word r.args ∷ []) ++ ((codes "result" ∷ result_word r.result ∷ []) ++ (read_words ++ write_words))) (call_form t r) key_call refl (name_is_word r.name c.name) all refl (c.name, read_names d t r.reads c.reads h, write_names d t r.writes c.writes h)))
 
 pub function_block : (n : List ℕ) → is_name n ≡ true → Block (function_line n) (Function n ∷ [])
 function_block n h = block_line (head_text (codes "function") n) (Function n)
@@ -463,4 +459,4 @@ pub root_block : (t : Table) → IsReadable (root_names t) t → (r : PrebuiltRo
 root_block t i r h =
     let b = root_body t r.name r.of r.parts i h.name h.body in
     block_line (head_text (codes "prebuilt") r.name ++ body_text t r.of r.parts) (root_form t r)
-        (head_line (codes "prebuilt") r.name (body_text t r.of r.parts) b.body_words (root_form t r) key_prebuilt refl (name_is_word r.name h.name) b.says b.spells b.is_form)
+    (head_line (codes "prebuilt") r.name (body_text t r.of r.parts) b.body_words (root_form t r) key_prebuilt refl (name_is_word r.name h.name) b.says b.spells b.is_form)

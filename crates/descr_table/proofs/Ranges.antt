@@ -1,12 +1,12 @@
 -- The table that is read is in range.
-use Rattle.std.proofs.Common.{◌≡◌, ℕ, zero, suc, ◌+◌, ◌*◌, ◌<◌, ◌≤◌, List, [], ◌∷◌, ◌++◌, length, map, get_or, Option, Some, None, refl, sym, ap, subst, ◌∙◌, arith, inl, inr, ◌⊎◌, zero-add}
+use Rattle.std.proofs.Common.{◌≡◌, ℕ, zero, suc, ◌<◌, ◌≤◌, List, [], ◌∷◌, length, map, Option, Some, refl, sym, ap, subst, ◌∙◌, arith, inl, inr, zero-add}
 use Rattle.std.specs.Prelude.{slice_get, sum, sum_by}
 use Rattle.std.specs.List.{All}
 use Rattle.std.specs.Option.{option_map, IsSomeAnd}
 use Rattle.std.proofs.lemmas.Bool.{cases_lt}
 use Rattle.std.proofs.lemmas.List.Sums.{sum_by-cons}
 use Rattle.trace_ops.specs.Kinds.{kind_of_initial, kind_of_field, HasParts, NamesShape}
-use Rattle.trace_ops.specs.InRange.{StandsOnce, fields_of_size, NamesInitial, NamesCall, IsPrebuilt, prebuilt_bytes, bytes_of_object, IsTableWithin}
+use Rattle.trace_ops.specs.InRange.{StandsOnce, fields_of_size, NamesInitial, NamesCall, IsPrebuilt, prebuilt_bytes, bytes_of_object}
 use Rattle.trace_ops.specs.declared.trace.Kind.{Kind}
 use Rattle.trace_ops.specs.declared.trace.Kind.TheVariants as kind
 use Rattle.trace_ops.specs.declared.table.ShapeOf.{ShapeOf}

@@ -1,9 +1,9 @@
 -- What holds of a table that is being read.
-use Rattle.std.proofs.Common.{◌≡◌, ℕ, ℤ, zero, suc, ◌+◌, ◌<◌, ◌≤◌, ◌^◌, Bool, true, false, cond, List, [], ◌∷◌, ◌++◌, length, map, Option, Some, None, refl, sym, ap, subst, ◌∙◌, arith, inl, inr, ◌⊎◌, add-zero, append_assoc, length-append}
+use Rattle.std.proofs.Common.{◌≡◌, ℕ, zero, suc, ◌+◌, ◌<◌, ◌≤◌, ◌^◌, Bool, true, false, cond, List, [], ◌∷◌, ◌++◌, length, map, Some, refl, sym, ap, subst, ◌∙◌, arith, add-zero, append_assoc, length-append}
 use Rattle.std.specs.Prelude.{slice_get, nat_eq, codes, option_to_list}
 use Rattle.std.specs.Str.{bytes_eq}
 use Rattle.std.specs.List.{AllByRecursion, flat_map}
-use Rattle.std.proofs.lemmas.Bool.{eq-eqb, ne_eqb, eqb-true}
+use Rattle.std.proofs.lemmas.Bool.{eq-eqb, ne_eqb}
 use Rattle.std.proofs.lemmas.List.{append-nil}
 use lib.Signed.{mag}
 use Rattle.text_lines.specs.Words.{is_name}
@@ -20,8 +20,7 @@ use Rattle.trace_ops.specs.declared.table.PrebuiltRow.{PrebuiltRow}
 use Rattle.trace_ops.specs.declared.table.Initial.{Initial}
 use Rattle.trace_ops.specs.declared.table.Initial.TheVariants as initial
 use Rattle.trace_ops.specs.declared.table.Table.{Table}
-use Rattle.descr_table.specs.Meaning.{with_field, fields_in, bytes_of}
-use Rattle.descr_table.specs.Writing.{field_name_in}
+use Rattle.descr_table.specs.Meaning.{with_field, bytes_of}
 use Rattle.descr_table.specs.Spelling.{IsNameOrNone}
 use Rattle.descr_table.proofs.Counts.{count, get-middle}
 
@@ -82,7 +81,7 @@ places-last test j [] x = ap (λ n. cond (test x) (n ∷ []) []) (sym (add-zero 
 places-last test j (y ∷ ys) x =
     let at : (j + 1) + length ys ≡ j + suc (length ys) = omega arith in
     by_first (test y) j (places_from test (j + 1) ys) (places_from test (j + 1) (ys ++ x ∷ [])) (cond (test x) ((j + suc (length ys)) ∷ []) [])
-      (places-last test (j + 1) ys x ∙ ap (λ n. places_from test (j + 1) ys ++ cond (test x) (n ∷ []) []) at)
+    (places-last test (j + 1) ys x ∙ ap (λ n. places_from test (j + 1) ys ++ cond (test x) (n ∷ []) []) at)
 
 pub fields-last : (k : ℕ) (fs : List FieldRow) (f : FieldRow) → f.size ≡ k → fields_at k (fs ++ f ∷ []) ≡ fields_at k fs ++ length fs ∷ []
 fields-last k fs f e =

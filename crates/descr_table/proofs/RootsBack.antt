@@ -1,10 +1,8 @@
 -- The lines of prebuilt objects that write a table are read back.
-use Rattle.std.proofs.Common.{◌≡◌, ℕ, zero, suc, ◌+◌, ◌<◌, ◌≤◌, Bool, true, false, cond, List, [], ◌∷◌, ◌++◌, length, map, Option, Some, None, refl, sym, ap, subst, ◌∙◌, arith, append_assoc, length-append, zero-add}
-use Rattle.std.specs.Prelude.{slice_get, option_to_list, nat_eq, not, ◌||◌}
+use Rattle.std.proofs.Common.{◌≡◌, ℕ, suc, ◌+◌, ◌<◌, ◌≤◌, Bool, true, false, cond, List, [], ◌∷◌, ◌++◌, length, map, Option, Some, refl, sym, ap, subst, ◌∙◌, arith, append_assoc, zero-add}
+use Rattle.std.specs.Prelude.{slice_get, nat_eq, not, ◌||◌}
 use Rattle.std.specs.Str.{bytes_eq}
-use Rattle.std.specs.List.{flat_map}
-use Rattle.std.proofs.lemmas.List.{map-append, append-nil, nil_from_length}
-use Rattle.std.proofs.lemmas.List.Concat.{flat_map-append}
+use Rattle.std.proofs.lemmas.List.{map-append, append-nil}
 use Rattle.text_lines.specs.Names.{has_name}
 use Rattle.trace_ops.specs.InRange.{places_from}
 use Rattle.trace_ops.specs.declared.table.ShapeOf.{ShapeOf}
@@ -12,40 +10,31 @@ use Rattle.trace_ops.specs.declared.table.ShapeOf.TheVariants as shape
 use Rattle.trace_ops.specs.declared.table.SizeRow.{SizeRow}
 use Rattle.trace_ops.specs.declared.table.FieldRow.{FieldRow}
 use Rattle.trace_ops.specs.declared.table.ArrayRow.{ArrayRow}
-use Rattle.trace_ops.specs.declared.table.CallRow.{CallRow}
 use Rattle.trace_ops.specs.declared.table.PrebuiltRow.{PrebuiltRow}
 use Rattle.trace_ops.specs.declared.table.Table.{Table}
-use Rattle.trace_ops.specs.declared.table.What.TheVariants as what
-use Rattle.descr_table.specs.declared.form.Form.{Form}
-use Rattle.descr_table.specs.Known.{names_of, is_named, is_class, is_class_if}
-use Rattle.descr_table.proofs.Readable.{Each, length-last, InOrder, fields_at, Listing, listing_field, places-last, IsSize, names_in, classes_in, IsReadable}
+use Rattle.descr_table.proofs.Readable.{Each, length-last, fields_at, IsReadable}
 use Rattle.std.specs.List.{list_any}
 use Rattle.std.proofs.lemmas.List.{length-map}
 use Rattle.text_lines.specs.Names.{number_of}
-use Rattle.descr_table.proofs.Readable.{Reads, Writes, IsCall}
-use Rattle.std.proofs.Common.{◌*◌, eqb}
-use Rattle.std.specs.Prelude.{sum, codes}
-use Rattle.std.proofs.lemmas.Bool.{eqb-true}
+use Rattle.std.proofs.Common.{◌*◌}
+use Rattle.std.specs.Prelude.{sum}
 use Rattle.std.proofs.lemmas.List.Sums.{sum_by-append, sum_by-cons}
 use Rattle.trace_ops.specs.declared.trace.Kind.{Kind}
 use Rattle.trace_ops.specs.declared.trace.Kind.TheVariants as kind
 use Rattle.trace_ops.specs.declared.table.Initial.{Initial}
 use Rattle.trace_ops.specs.declared.table.Initial.TheVariants as initial
-use Rattle.descr_table.specs.declared.form.Form.TheVariants.{Object, Items}
-use Rattle.descr_table.specs.declared.form.Given.{Given}
-use Rattle.descr_table.specs.declared.form.Given.TheVariants as given
 use Rattle.descr_table.specs.declared.form.Part.{Part}
 use Rattle.descr_table.specs.Known.{repeats}
-use Rattle.descr_table.specs.Meaning.{is_misplaced, is_twice, is_unknown, is_undefined, is_bad_initial, is_bad_field, is_bad_part, is_bad_item, is_of, row_at, place, fields_in, fields_of, row_bytes, shape_bytes, bytes_of, limit_at, given_for, initial_of, initial_or, field_initial, put_at, put}
+use Rattle.descr_table.specs.Meaning.{is_misplaced, is_twice, is_unknown, is_undefined, is_bad_initial, is_bad_field, is_bad_item, is_of, row_at, place, fields_in, row_bytes, shape_bytes, bytes_of, limit_at, given_for, initial_of, initial_or, field_initial, put_at, put}
 use Rattle.descr_table.specs.Writing.{size_name, size_name_in, field_name, field_name_in, array_name, array_name_in, prebuilt_name, prebuilt_name_in}
-use Rattle.descr_table.proofs.Counts.{count, one_if, count-append, count_free, free_count, free_before, itself, is_known, place_is, number_is, within, get-map, get-middle}
+use Rattle.descr_table.proofs.Counts.{count, one_if, free_count, free_before, itself, is_known, place_is, number_is, within, get-map, get-middle}
 use Rattle.descr_table.proofs.Clear.{IsClear, not_refused, false_or, false_not, none_of, of_none, none_bytes}
 use Rattle.descr_table.proofs.Readable.{places_hold, Holds, HoldFields, HasBody, IsRoot}
 use Rattle.descr_table.proofs.KeepsRoots.{listing_at}
 use Rattle.descr_table.proofs.RowForms.{value_form, part_form, parts_form, body_form, root_form, Goes}
-use Rattle.descr_table.proofs.ShapesBack.{stands_in, count_front}
+use Rattle.descr_table.proofs.ShapesBack.{stands_in}
 use Rattle.descr_table.proofs.FieldsBack.{get_some}
-use Rattle.descr_table.proofs.CallsBack.{rows_so_far, field_names, FieldOf, field_of}
+use Rattle.descr_table.proofs.CallsBack.{rows_so_far, field_names, field_of}
 
 abbrev Names : Type 0
 Names = List (List ℕ)
@@ -148,9 +137,9 @@ parts_names t (f ∷ fs) [] h = absurd h
 parts_names t (f ∷ fs) (p ∷ ps) h = ap (λ (ns : Names). field_name t f ∷ ns) (parts_names t fs ps h.1)
 
 -- the names of a size's fields are distinct
-count_by : (b : Bool) (n m : List ℕ) (i : ℕ) (fs : List ℕ) (g : ℕ → List ℕ) (c : ℕ) → g i ≡ m → count n (map g fs) ≤ c → count n (map g (cond b (i ∷ fs) fs)) ≤ one_if (bytes_eq n m) + c
-count_by true n m i fs g c e le = omega (arith, ap (λ x. one_if (bytes_eq n x)) e)
-count_by false n m i fs g c e le = omega arith
+count_if : (b : Bool) (n m : List ℕ) (i : ℕ) (fs : List ℕ) (g : ℕ → List ℕ) (c : ℕ) → g i ≡ m → count n (map g fs) ≤ c → count n (map g (cond b (i ∷ fs) fs)) ≤ one_if (bytes_eq n m) + c
+count_if true n m i fs g c e le = omega (arith, ap (λ x. one_if (bytes_eq n x)) e)
+count_if false n m i fs g c e le = omega arith
 
 count_places : (t : Table) (test : FieldRow → Bool) (n : List ℕ) (front xs : List FieldRow) → t.fields ≡ front ++ xs → count n (map (λ f. field_name t f) (places_from test (length front) xs)) ≤ count n (map (λ (r : FieldRow). r.name) xs)
 unfolding places_from
@@ -160,7 +149,7 @@ count_places t test n front (x ∷ xs) e =
     let rest : count n (map (λ f. field_name t f) (places_from test (length (front ++ x ∷ [])) xs)) ≤ count n (map (λ (r : FieldRow). r.name) xs) = count_places t test n (front ++ x ∷ []) xs (e ∙ sym (append_assoc front (x ∷ []) xs)) in
     let at : length (front ++ x ∷ []) ≡ length front + 1 = length-last front x ∙ omega arith in
     let le : count n (map (λ f. field_name t f) (places_from test (length front + 1) xs)) ≤ count n (map (λ (r : FieldRow). r.name) xs) = subst (λ (k : ℕ). count n (map (λ f. field_name t f) (places_from test k xs)) ≤ count n (map (λ (r : FieldRow). r.name) xs)) at rest in
-    count_by (test x) n x.name (length front) (places_from test (length front + 1) xs) (λ f. field_name t f) (count n (map (λ (r : FieldRow). r.name) xs)) here le
+    count_if (test x) n x.name (length front) (places_from test (length front + 1) xs) (λ f. field_name t f) (count n (map (λ (r : FieldRow). r.name) xs)) here le
 
 repeats_free : (seen ns : Names) → ((n : List ℕ) → count n (seen ++ ns) ≤ 1) → repeats seen ns ≡ false
 unfolding repeats
@@ -273,8 +262,7 @@ object_step t done n k ps i next body =
     let good : Each (λ (p : Part). is_bad_field (place (size_name t k) sizes) p.value (row_at t.fields (number_of p.name (field_names t))) ≡ false) parts = subst (λ (s : ℕ). Each (λ (p : Part). is_bad_field s p.value (row_at t.fields (number_of p.name (field_names t))) ≡ false) parts) (sym size.at_place) (parts_good t k (fields_in (slice_get t.sizes k)) ps i stand held) in
     let own : fields_in (slice_get t.sizes (place (size_name t k) sizes)) ≡ fields_in (slice_get t.sizes k) = ap (λ s. fields_in (slice_get t.sizes s)) size.at_place in
     let len = parts_len d t.fields (fields_in (slice_get t.sizes k)) ps held in
-    let back : map (λ j. field_initial d parts (slice_get t.fields j)) (fields_in (slice_get t.sizes (place (size_name t k) sizes))) ≡ ps = ap (map (λ j. field_initial d parts (slice_get t.fields j))) own ∙ parts_back t parts (fields_in (slice_get t.sizes k)) ps i held (all_given t (fields_in (slice_get t.sizes k)) ps held once) in
-    (
+    let back : map (λ j. field_initial d parts (slice_get t.fields j)) (fields_in (slice_get t.sizes (place (size_name t k) sizes))) ≡ ps = ap (map (λ j. field_initial d parts (slice_get t.fields j))) own ∙ parts_back t parts (fields_in (slice_get t.sizes k)) ps i held (all_given t (fields_in (slice_get t.sizes k)) ps held once) in (
       record {
         placed = refl;
         new = false_or (has_name n (map (λ (r : PrebuiltRow). r.name) done)) (repeats [] (map (λ (p : Part). p.name) parts)) next.new norep;
@@ -297,8 +285,7 @@ array_step t done n k ps i next body =
     let array = named_array d t k row body.1 i in
     let here : row_at t.arrays (number_of (array_name t k) names) ≡ Some row = ap (row_at t.arrays) array.number ∙ body.1 in
     let good : Each (λ v. is_bad_item (row_at t.arrays (number_of (array_name t k) names)) v ≡ false) items = subst (λ (o : Option ArrayRow). Each (λ v. is_bad_item o v ≡ false) items) (sym here) (items_good t row ps body.2) in
-    let back = items_back t row.kind ps i body.2 in
-    (
+    let back = items_back t row.kind ps i body.2 in (
       record {
         placed = refl;
         new = next.new;
@@ -322,8 +309,7 @@ roots_go t done (r ∷ rest) e roots h =
       bytes = omega (arith, bytes_before t done r rest e, h.bytes);
     } in
     let step = root_step t done r.name r.of r.parts h next roots.0.body in
-    let more : Goes (root_names t) (rows_so_far t t.calls t.functions (done ++ r ∷ [])) (map (λ r. root_form t r) rest) t = roots_go t (done ++ r ∷ []) rest (e ∙ sym (append_assoc done (r ∷ []) rest)) roots.1 h in
-    (
+    let more : Goes (root_names t) (rows_so_far t t.calls t.functions (done ++ r ∷ [])) (map (λ r. root_form t r) rest) t = roots_go t (done ++ r ∷ []) rest (e ∙ sym (append_assoc done (r ∷ []) rest)) roots.1 h in (
       not_refused (root_form t r) (root_names t) (rows_so_far t t.calls t.functions done) step.0,
       subst (λ (x : Table). Goes (root_names t) x (map (λ r. root_form t r) rest) t) (sym step.1) more,
     )

@@ -1,12 +1,12 @@
 -- The text of a table that was read is read as that table.
-use Rattle.std.proofs.Common.{◌≡◌, ℕ, zero, suc, ◌+◌, ◌<◌, ◌≤◌, Bool, true, false, cond, List, [], ◌∷◌, ◌++◌, length, map, Option, Some, None, Result, Ok, Err, refl, sym, ap, subst, ◌∙◌, arith, append_assoc}
+use Rattle.std.proofs.Common.{◌≡◌, ℕ, ◌<◌, true, false, List, [], ◌∷◌, ◌++◌, length, map, Option, Some, None, Ok, refl, sym, ap, subst, ◌∙◌, arith, append_assoc}
 use Rattle.std.specs.Prelude.{slice_get}
 use Rattle.std.specs.List.{flat_map}
 use Rattle.std.proofs.lemmas.List.{append-nil, map-append}
 use Rattle.text_lines.specs.Lines.{lines}
 use Rattle.text_lines.specs.Words.{is_name}
 use Rattle.text_lines.specs.Names.{has_name, with_name}
-use Rattle.text_lines.specs.Reading.{said, read_lines}
+use Rattle.text_lines.specs.Reading.{read_lines}
 use Rattle.trace_ops.specs.declared.table.ShapeOf.{ShapeOf}
 use Rattle.trace_ops.specs.declared.table.ShapeOf.TheVariants as shape
 use Rattle.trace_ops.specs.declared.table.SizeRow.{SizeRow}
@@ -17,14 +17,13 @@ use Rattle.trace_ops.specs.declared.table.PrebuiltRow.{PrebuiltRow}
 use Rattle.trace_ops.specs.declared.table.Initial.{Initial}
 use Rattle.trace_ops.specs.declared.table.Table.{Table}
 use Rattle.descr_table.specs.declared.form.Form.{Form}
-use Rattle.descr_table.specs.declared.form.Form.TheVariants.{Size, Field, Array, Call, Function, Object, Items}
-use Rattle.descr_table.specs.Form.{form_at}
+use Rattle.descr_table.specs.declared.form.Form.TheVariants.{Function}
 use Rattle.descr_table.specs.Meaning.{nothing}
 use Rattle.descr_table.specs.Reading.{prebuilt_name, with_defined, defined_in, defined_behind, read_line, table_at}
 use Rattle.descr_table.specs.Writing.{shape_line, field_line, call_line, function_line, prebuilt_line, table_text}
 use Rattle.descr_table.proofs.Counts.{free_count}
 use Rattle.descr_table.proofs.Readable.{Each, IsCall, IsRoot, IsReadable}
-use Rattle.descr_table.proofs.RowForms.{size_forms, array_forms, shape_forms, field_form, call_form, body_form, root_form, one, Goes, goes_on, read_goes, defined_by, defined_said, defined_both}
+use Rattle.descr_table.proofs.RowForms.{size_forms, array_forms, shape_forms, field_form, call_form, body_form, root_form, Goes, goes_on, read_goes, defined_by, defined_said, defined_both}
 use Rattle.descr_table.proofs.ShapesBack.{stands_in, shapes_so_far, all_shapes_go}
 use Rattle.descr_table.proofs.FieldsBack.{fields_so_far, fields_go, fields_begin, fields_end}
 use Rattle.descr_table.proofs.CallsBack.{rows_so_far, calls_go, functions_go}

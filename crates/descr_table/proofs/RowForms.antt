@@ -1,7 +1,6 @@
 -- The forms of the lines that write a table.
-use Rattle.std.proofs.Common.{◌≡◌, ℕ, suc, ◌+◌, Bool, true, false, List, [], ◌∷◌, ◌++◌, map, Option, Some, None, Result, Ok, Err, refl, sym, ap, subst, ◌∙◌}
+use Rattle.std.proofs.Common.{◌≡◌, ℕ, suc, List, [], ◌∷◌, ◌++◌, map, Option, Some, None, Result, Ok, refl, sym, ap, subst, ◌∙◌}
 use Rattle.std.specs.Prelude.{slice_get}
-use Rattle.std.specs.List.{flat_map}
 use Rattle.text_lines.specs.Reading.{said, read_lines, ok_then}
 use Rattle.trace_ops.specs.declared.table.ShapeOf.{ShapeOf}
 use Rattle.trace_ops.specs.declared.table.ShapeOf.TheVariants as shape
@@ -14,15 +13,14 @@ use Rattle.trace_ops.specs.declared.table.Initial.{Initial}
 use Rattle.trace_ops.specs.declared.table.Initial.TheVariants as initial
 use Rattle.trace_ops.specs.declared.table.Table.{Table}
 use Rattle.descr_table.specs.declared.form.Form.{Form}
-use Rattle.descr_table.specs.declared.form.Form.TheVariants.{Size, Field, Array, Call, Function, Object, Items}
+use Rattle.descr_table.specs.declared.form.Form.TheVariants.{Size, Field, Array, Call, Object, Items}
 use Rattle.descr_table.specs.declared.form.Given.{Given}
 use Rattle.descr_table.specs.declared.form.Given.TheVariants as given
 use Rattle.descr_table.specs.declared.form.Part.{Part}
-use Rattle.descr_table.specs.declared.fault.Refusal.{Refusal}
 use Rattle.descr_table.specs.declared.fault.TableFault.{TableFault}
 use Rattle.descr_table.specs.Form.{form_at}
 use Rattle.descr_table.specs.Meaning.{refusal, put}
-use Rattle.descr_table.specs.Reading.{prebuilt_name, with_defined, defined_name, defined_behind, after, read_said, read_line}
+use Rattle.descr_table.specs.Reading.{prebuilt_name, with_defined, defined_name, defined_behind, read_said, read_line}
 use Rattle.descr_table.specs.Writing.{size_name, field_name, array_name, fields_in}
 use Rattle.descr_table.specs.Writing.{prebuilt_name as root_name}
 

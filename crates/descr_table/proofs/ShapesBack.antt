@@ -1,31 +1,24 @@
 -- The lines of sizes, arrays and fields that write a table are read back.
-use Rattle.std.proofs.Common.{◌≡◌, ℕ, zero, suc, ◌+◌, ◌<◌, ◌≤◌, Bool, true, false, cond, List, [], ◌∷◌, ◌++◌, length, map, Option, Some, None, refl, sym, ap, subst, ◌∙◌, arith, append_assoc, length-append}
-use Rattle.std.specs.Prelude.{slice_get, option_to_list, nat_eq, not, ◌||◌}
+use Rattle.std.proofs.Common.{◌≡◌, ℕ, suc, ◌+◌, ◌<◌, ◌≤◌, false, List, [], ◌∷◌, ◌++◌, length, map, Option, Some, None, refl, sym, ap, subst, ◌∙◌, arith, append_assoc, length-append}
+use Rattle.std.specs.Prelude.{slice_get, option_to_list}
 use Rattle.std.specs.Str.{bytes_eq}
 use Rattle.std.specs.List.{flat_map}
 use Rattle.std.proofs.lemmas.List.{map-append, append-nil, nil_from_length}
 use Rattle.std.proofs.lemmas.List.Concat.{flat_map-append}
 use Rattle.text_lines.specs.Names.{has_name}
-use Rattle.trace_ops.specs.InRange.{places_from}
 use Rattle.trace_ops.specs.declared.table.ShapeOf.{ShapeOf}
 use Rattle.trace_ops.specs.declared.table.ShapeOf.TheVariants as shape
 use Rattle.trace_ops.specs.declared.table.SizeRow.{SizeRow}
-use Rattle.trace_ops.specs.declared.table.FieldRow.{FieldRow}
 use Rattle.trace_ops.specs.declared.table.ArrayRow.{ArrayRow}
-use Rattle.trace_ops.specs.declared.table.CallRow.{CallRow}
-use Rattle.trace_ops.specs.declared.table.PrebuiltRow.{PrebuiltRow}
 use Rattle.trace_ops.specs.declared.table.Table.{Table}
 use Rattle.trace_ops.specs.declared.table.What.TheVariants as what
-use Rattle.descr_table.specs.declared.form.Form.{Form}
-use Rattle.descr_table.specs.declared.form.Form.TheVariants.{Size, Field, Array}
-use Rattle.descr_table.specs.Known.{names_of, is_named, is_class, is_class_if}
-use Rattle.descr_table.specs.Meaning.{nothing, is_misplaced, is_twice, is_unknown, is_bad_initial, limit_at, refusal, place, fields_in, with_field, put_at, put}
-use Rattle.descr_table.specs.Writing.{size_name, size_name_in}
-use Rattle.descr_table.proofs.Counts.{count, one_if, count-append, count_free, free_count, itself, is_known, place_is, within, get-map, get-middle}
-use Rattle.descr_table.proofs.Clear.{IsClear, not_refused, false_or, false_not, none_full}
-use Rattle.descr_table.proofs.Readable.{Each, length-last, InOrder, fields_at, Listing, listing_field, places-last, IsSize, names_in, classes_in, IsReadable}
+use Rattle.descr_table.specs.Known.{names_of, is_named, is_class_if}
+use Rattle.descr_table.specs.Meaning.{nothing, is_misplaced, is_twice, is_unknown, is_bad_initial, limit_at, put_at, put}
+use Rattle.descr_table.proofs.Counts.{count, one_if, count-append, free_count, itself, get-middle}
+use Rattle.descr_table.proofs.Clear.{IsClear, not_refused, false_or, none_full}
+use Rattle.descr_table.proofs.Readable.{length-last, InOrder, IsReadable}
 use Rattle.descr_table.proofs.Ranges.{order_le}
-use Rattle.descr_table.proofs.RowForms.{shape_forms, size_forms, size_form, array_forms, array_form, field_form, Goes}
+use Rattle.descr_table.proofs.RowForms.{shape_forms, size_forms, size_form, array_forms, array_form, Goes}
 
 abbrev Names : Type 0
 Names = List (List ℕ)

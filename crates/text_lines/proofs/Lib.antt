@@ -5,3 +5,4 @@ pub mod Digits
 pub mod FirstBadLaws
 pub mod Integers
 pub mod Pieces
+pub mod CutLaws

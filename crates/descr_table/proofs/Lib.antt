@@ -7,3 +7,17 @@ pub mod Steps
 pub mod Again
 pub mod Takes
 pub mod PartsText
+pub mod Counts
+pub mod Readable
+pub mod Clear
+pub mod Keeps
+pub mod KeepsRoots
+pub mod Ranges
+pub mod LinesKept
+pub mod RowForms
+pub mod ShapesBack
+pub mod FieldsBack
+pub mod CallsBack
+pub mod RootsBack
+pub mod LinesSay
+pub mod RoundTrip

@@ -88,12 +88,12 @@ vtable_added (Some v) rows r k is e h =
     let free : has_name v (flat_map vtable_of rows) ≡ false = sym (ap (has_name v) e) ∙ (or_false (has_name v k.vtables) (has_name v k.functions) h).0 in
     added v (flat_map vtable_of rows) free ∙ sym (flat_map-append vtable_of rows (r ∷ []) ∙ ap (λ o. flat_map vtable_of rows ++ (option_to_list o ++ [])) is)
 
-map-with_field : {X : Type 0} (g : SizeRow → X) → ((r : SizeRow) (n : ℕ) → g (record r { fields = r.fields ++ n ∷ [] }) ≡ g r) → (at n : ℕ) (rows : List SizeRow) → map g (with_field at n rows) ≡ map g rows
+pub map-with_field : {X : Type 0} (g : SizeRow → X) → ((r : SizeRow) (n : ℕ) → g (record r { fields = r.fields ++ n ∷ [] }) ≡ g r) → (at n : ℕ) (rows : List SizeRow) → map g (with_field at n rows) ≡ map g rows
 map-with_field g same at n [] = refl
 map-with_field g same zero n (r ∷ rs) = rw (same r n) refl
 map-with_field g same (suc at) n (r ∷ rs) = ap (λ xs. g r ∷ xs) (map-with_field g same at n rs)
 
-vtables-with_field : (at n : ℕ) (rows : List SizeRow) → flat_map vtable_of (with_field at n rows) ≡ flat_map vtable_of rows
+pub vtables-with_field : (at n : ℕ) (rows : List SizeRow) → flat_map vtable_of (with_field at n rows) ≡ flat_map vtable_of rows
 vtables-with_field at n [] = refl
 vtables-with_field zero n (r ∷ rs) = refl
 vtables-with_field (suc at) n (r ∷ rs) = ap (λ xs. vtable_of r ++ xs) (vtables-with_field at n rs)
@@ -112,7 +112,7 @@ free name k e =
     let b = or_false (has_name name k.arrays) (has_name name k.calls) h.1 in
     record { sizes = a.0; fields = a.1; arrays = b.0; calls = b.1 }
 
-noted_names : (f : Form) (defined : Names) (t : Table) → is_twice f (names_of t) ≡ false → noted f (names_of t) ≡ names_of (put f defined t)
+pub noted_names : (f : Form) (defined : Names) (t : Table) → is_twice f (names_of t) ≡ false → noted f (names_of t) ≡ names_of (put f defined t)
 unfolding noted put_at is_twice
 noted_names (Size name vtable) defined t e =
     let h = or_false (is_named name (names_of t)) (is_class_if vtable (names_of t)) e in
@@ -154,7 +154,7 @@ row_bytes_added rows r = ap sum (map-append row_bytes rows (r ∷ [])) ∙ sum_l
 none_added : (n : ℕ) → n ≡ n + 0
 none_added n = omega arith
 
-bytes_put : (f : Form) (defined : Names) (t : Table) → bytes_of (put f defined t) ≡ bytes_of t + form_bytes f (names_of t) t
+pub bytes_put : (f : Form) (defined : Names) (t : Table) → bytes_of (put f defined t) ≡ bytes_of t + form_bytes f (names_of t) t
 unfolding put_at form_bytes
 bytes_put (Size name vtable) defined t = none_added (bytes_of t)
 bytes_put (Field name size kind immutable) defined t = none_added (bytes_of t)

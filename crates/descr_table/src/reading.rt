@@ -7,6 +7,7 @@ ghost use Rattle.descr_table.specs.Form.{form_at};
 ghost use Rattle.descr_table.specs.Meaning.{nothing, refusal};
 ghost use Rattle.descr_table.specs.Reading.{prebuilt_name, defined_name, with_defined, defined_in, fault_at, after, read_line, table_at, Gives};
 ghost use Rattle.descr_table.specs.Draft.{table_of, Leaves, IsDraft, Few};
+ghost use Rattle.trace_ops.specs.InRange.{IsTableInRange};
 
 use crate::draft::Draft;
 use crate::fault::{Refusal, TableFault};
@@ -138,10 +139,11 @@ fn read_all(
 }
 
 /// The table that the lines stand for, or the first refusal. The lines are those behind `%table`, and are
-/// numbered from `first_line`.
+/// numbered from `first_line`. A table that is read is in range: its numbers name rows, and no limit is passed.
 pub fn read_table(alloc: Global, text: &[u8], first_line: u32) -> Result<Table, TableFault>
     requires { first_line + length (lines text.now) < 2 ^ 32 }
-    ensures { Gives result (table_at first_line text.now) }
+    ensures read { Gives result (table_at first_line text.now) }
+    ensures in_range { IfOk result (λ t. IsTableInRange t) }
 {
     match defined_in(alloc, text) {
         Err(_) => Err(TableFault::OutOfMemory),

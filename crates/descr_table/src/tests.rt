@@ -1,3 +1,5 @@
+//! Tables that are read, refused, and written and read back.
+
 use crate::{read_table, write_table};
 use std::alloc::{AllocError, Global};
 use std::test::*;
@@ -34,7 +36,7 @@ const GOOD: [&[u8]; 12] = [
 ];
 
 // Lines that are refused, with the refusal.
-const BAD: [(&[u8], &str); 40] = [
+const BAD: [(&[u8], &str); 41] = [
     (b"size", "line 1: syntax"),
     (b"\nsize 9a", "line 2: syntax"),
     (b"size a b", "line 1: syntax"),
@@ -75,6 +77,7 @@ const BAD: [(&[u8], &str); 40] = [
     (b"array s i\nprebuilt a s [1 2]", "line 2: syntax"),
     (b"array s i\nprebuilt a s [1] 2", "line 2: syntax"),
     (b"size s\nprebuilt a s\nfield x of s i", "line 3: syntax"),
+    (b"size s\nprebuilt a s\nfield s of s i", "line 3: syntax"),
     (b"size a\nsize a", "line 2: twice"),
     (b"size a\narray a i", "line 2: twice"),
     (b"size a vtable v\nsize b vtable v", "line 2: twice"),
@@ -132,6 +135,16 @@ fn first_parts(alloc: Global, text: &[u8]) -> Result<String, AllocError> {
 fn a_prebuilt_lists_its_parts_in_field_order(rt: HostRuntime) -> Result<(), Fail> {
     let parts = first_parts(rt.alloc(), NODE)?;
     assert_eq!(rt; parts.as_str(), "[Int(1), Int(10), Null]");
+    Ok(())
+}
+
+#[test]
+fn null_is_no_name_of_a_value(rt: HostRuntime) -> Result<(), Fail> {
+    let parts = first_parts(
+        rt.alloc(),
+        b"size s\nfield f of s r\nprebuilt NULL s f=NULL",
+    )?;
+    assert_eq!(rt; parts.as_str(), "[Null]");
     Ok(())
 }
 

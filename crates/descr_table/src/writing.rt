@@ -1,8 +1,9 @@
 //! The lines that write a table.
 
-ghost use Rattle.std.specs.Prelude.{◌≡◌, ◌++◌, ◌∷◌, [], OnOk, IfOk, map, slice_get};
+ghost use Rattle.std.specs.Prelude.{◌≡◌, ◌++◌, ◌∷◌, [], ℕ, List, OnOk, IfOk, map, slice_get};
 ghost use Rattle.std.specs.List.{flat_map};
 ghost use Rattle.descr_table.specs.Spelling.{kind_letter, kind_word, kinds_word, result_word};
+ghost use Rattle.descr_table.specs.Reading.{table_at};
 ghost use Rattle.descr_table.specs.Writing.{size_name, field_name, array_name, prebuilt_name, word_text, head_text, vtable_text, immutable_text, of_text, args_text, gives_text, names_text, list_text, value_text, part_text, parts_text, more_items, items_text, body_text, size_line, array_line, field_line, call_line, function_line, prebuilt_line, shape_line, table_text, fields_in};
 
 use std::alloc::{AllocError, Global};
@@ -389,9 +390,11 @@ fn put_prebuilts(out: &mut Vec<u8>, table: &Table) -> Result<(), AllocError>
     Ok(())
 }
 
-/// The lines behind `%table` that write a table.
+/// The lines behind `%table` that write a table. A table that some text stands for is what they stand for, whatever
+/// the number of their first line.
 pub fn write_table(alloc: Global, table: &Table) -> Result<Vec<u8>, AllocError>
-    ensures { IfOk result (λ v. v.items ≡ table_text table.now) }
+    ensures text { IfOk result (λ v. v.items ≡ table_text table.now) }
+    ensures read_back { IfOk result (λ v. (text : List ℕ) (first again : ℕ) → table_at first text ≡ Ok table.now → table_at again v.items ≡ Ok table.now) }
 {
     let mut out = Vec::new(alloc);
     put_shapes(&mut out, table)?;

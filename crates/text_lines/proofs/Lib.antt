@@ -3,3 +3,6 @@ pub mod WordLaws
 pub mod Written
 pub mod Digits
 pub mod FirstBadLaws
+pub mod Integers
+pub mod Pieces
+pub mod CutLaws

@@ -1,25 +1,19 @@
 -- What was written is read again.
-use Rattle.std.proofs.Common.{◌≡◌, ℕ, suc, ◌+◌, ◌<◌, ◌≤◌, Bool, true, false, cond, eqb, leb, List, [], ◌∷◌, ◌++◌, length, refl, sym, ap, subst, ◌∙◌, arith, append_assoc}
+use Rattle.std.proofs.Common.{◌≡◌, ℕ, Bool, true, false, eqb, leb, List, [], ◌∷◌, ◌++◌, length, refl, sym, ap, ◌∙◌, arith}
 use Rattle.std.proofs.lemmas.List.{append-nil}
-use Rattle.std.specs.Prelude.{◌||◌, ◌&&◌, not}
+use Rattle.std.specs.Prelude.{◌&&◌}
 use Rattle.std.specs.List.{list_all, AllByRecursion}
 use Rattle.std.proofs.lemmas.Bool.Decides.{nat_tests}
 use Rattle.text_lines.specs.Lines.{in_front, lines}
-use Rattle.text_lines.specs.Words.{words, is_mark, is_word_byte, is_letter, is_digit, is_name_byte, begins_name, begins_word, is_name, is_plain}
-use Rattle.text_lines.specs.Written.{spaced}
+use Rattle.text_lines.specs.Words.{words, is_mark, is_word_byte, is_letter, is_name_byte, begins_word, is_name, is_plain}
+use Rattle.text_lines.specs.Written.{spaced, IsWord}
 use Rattle.text_lines.proofs.WordLaws.{alone, joined, no_space_in_word}
 
 both : (a b : Bool) → (a && b) ≡ true → (a ≡ true) × (b ≡ true)
 both true b e = (refl, e)
 both false b e = absurd cc
 
--- a word of word bytes that can be written in a line
-pub record IsWord (w : List ℕ) : Type 0 where
-  pub some : 0 < length w
-  pub bytes : list_all is_word_byte w ≡ true
-  pub plain : is_plain w ≡ true
-
-words_word : (c : ℕ) (cs rest : List ℕ) → list_all is_word_byte (c ∷ cs) ≡ true → begins_word rest ≡ false → words ((c ∷ cs) ++ rest) ≡ (c ∷ cs) ∷ words rest
+pub words_word : (c : ℕ) (cs rest : List ℕ) → list_all is_word_byte (c ∷ cs) ≡ true → begins_word rest ≡ false → words ((c ∷ cs) ++ rest) ≡ (c ∷ cs) ∷ words rest
 words_word c [] rest h e =
     let p = both (is_word_byte c) true h in
     let no : (is_word_byte c && begins_word rest) ≡ false = rw (p.0, e) refl in
@@ -50,7 +44,7 @@ words_spaced [] h = refl
 words_spaced (w ∷ []) h = ap words (append-nil w) ∙ word_alone w h.0
 words_spaced (w ∷ v ∷ ws) h = word_then_space w (spaced (v ∷ ws)) h.0 ∙ ap (λ (x : List (List ℕ)). w ∷ x) (words_spaced (v ∷ ws) h.1)
 
-list_all-append : (p : ℕ → Bool) (xs ys : List ℕ) → list_all p xs ≡ true → list_all p ys ≡ true → list_all p (xs ++ ys) ≡ true
+pub list_all-append : (p : ℕ → Bool) (xs ys : List ℕ) → list_all p xs ≡ true → list_all p ys ≡ true → list_all p (xs ++ ys) ≡ true
 list_all-append p [] ys a b = b
 list_all-append p (x ∷ xs) ys a b =
     let h = both (p x) (list_all p xs) a in

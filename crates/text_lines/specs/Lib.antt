@@ -5,3 +5,4 @@ pub mod Numbers
 pub mod Names
 pub mod Written
 pub mod FirstBad
+pub mod Cut

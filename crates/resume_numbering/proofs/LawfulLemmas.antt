@@ -1,5 +1,5 @@
 -- What a table that stands for snapshots leads to.
-use Rattle.std.proofs.Common.{◌≡◌, ℕ, zero, suc, ◌+◌, ◌*◌, ◌<◌, ◌≤◌, List, [], ◌∷◌, ◌++◌, Option, Some, None, length, map, slice_get, reverse, refl, ap, sym, subst, ◌∙◌, ◌⊎◌, inl, inr, arith}
+use Rattle.std.proofs.Common.{◌≡◌, ℕ, zero, suc, ◌+◌, ◌*◌, ◌<◌, List, [], ◌∷◌, ◌++◌, Option, Some, None, length, map, slice_get, reverse, refl, ap, sym, subst, ◌∙◌, inl, inr, arith}
 use Rattle.std.specs.List.{AllZip, All, AllByRecursion, flat_map}
 use Rattle.std.proofs.lemmas.List.{reverse-append}
 use Rattle.std.proofs.lemmas.Option.{slice_get_within}
@@ -11,23 +11,20 @@ use Rattle.trace_ops.specs.declared.piece.Val.{Val}
 use Rattle.trace_ops.specs.declared.piece.Val.TheVariants.{Known, Virtual}
 use Rattle.trace_ops.specs.declared.piece.OptFrame.{OptFrame}
 use Rattle.trace_ops.specs.declared.piece.Shape.{Shape}
-use Rattle.trace_ops.specs.declared.piece.Pending.{Pending}
 use Rattle.trace_ops.specs.declared.piece.Snapshot.{Snapshot}
-use Rattle.trace_ops.specs.declared.piece.OptOp.{OptOp}
 use Rattle.trace_ops.specs.declared.piece.Piece.{Piece}
 use Rattle.trace_ops.specs.Lawful.{IsNumbered as IsVirtualOf}
-use Rattle.trace_ops.specs.Pieces.{guards_of}
 use Rattle.trace_ops.specs.Sound.{AreApart, snapshots_in}
 use Rattle.resume_numbering.specs.declared.rows.FrameRow.{FrameRow}
 use Rattle.resume_numbering.specs.declared.rows.VirtualRow.{VirtualRow}
 use Rattle.resume_numbering.specs.declared.rows.PendingRow.{PendingRow}
 use Rattle.resume_numbering.specs.declared.rows.GuardRow.{GuardRow}
 use Rattle.resume_numbering.specs.declared.rows.ResumeTable.{ResumeTable}
-use Rattle.resume_numbering.specs.Tags.{IsSmall, IsConstAt, Reads, IsConstBelow, IsVirtualBelow, IsBoxTagBelow, IsNoVirtual, IsKept, with_consts}
+use Rattle.resume_numbering.specs.Tags.{IsConstAt, Reads, IsConstBelow, IsVirtualBelow, IsBoxTagBelow, IsNoVirtual, IsKept}
 use Rattle.resume_numbering.specs.Values.{values_in, values_of_store, IsOfKind}
 use Rattle.resume_numbering.specs.Standing.{FramesStand, VirtualStands, PendingStands, StandsFor}
 use Rattle.resume_numbering.specs.Leading.{parent_in, parent_of, outward, LeadsOnlyTo}
-use Rattle.resume_numbering.specs.Uses.{Guarded, guarded, after_guards}
+use Rattle.resume_numbering.specs.Uses.{Guarded, guarded}
 use Rattle.resume_numbering.specs.Lawful.{IsLawful, IsConstant, StoresKeep}
 use Rattle.resume_numbering.specs.Conditions.{CanNumber}
 use Rattle.resume_numbering.specs.Numbered.{StandsIn, IsNumbered}

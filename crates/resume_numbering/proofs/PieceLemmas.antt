@@ -1,10 +1,11 @@
 -- What the conditions on a piece say of its guards.
-use Rattle.std.proofs.Common.{◌≡◌, ℕ, zero, suc, ◌+◌, ◌<◌, ◌≤◌, ◌^◌, ℤ, List, [], ◌∷◌, ◌++◌, Option, Some, None, Bool, true, false, ◌||◌, cond, length, map, refl, ap, sym, subst, ◌∙◌, ◌⊎◌, inl, inr, arith}
+use Rattle.std.proofs.Common.{◌≡◌, ℕ, zero, suc, ◌+◌, ◌<◌, ◌^◌, ℤ, List, [], ◌∷◌, ◌++◌, Option, Some, None, Bool, true, false, ◌||◌, cond, length, map, refl, ap, sym, subst, ◌∙◌, inl, inr, arith}
 use Rattle.std.specs.Prelude.{slice_index_or, sum_by, IsSome}
 use Rattle.std.specs.List.{list_any, All, AllByRecursion, Contains, flat_map}
-use Rattle.std.proofs.lemmas.List.Elements.{All-push, All-nil, All-from_recursion, recursion_from_All, Contains-push_cases, All-contains_itself}
+use Rattle.std.proofs.lemmas.List.Elements.{All-push, All-nil, recursion_from_All, Contains-push_cases, All-contains_itself}
 use Rattle.std.proofs.lemmas.List.Sums.{sum_by-cons}
 use Rattle.indexmap.specs.IndexSet.{insert_key}
+use Rattle.trace_ops.specs.declared.trace.Kind.{Kind}
 use Rattle.trace_ops.specs.declared.trace.Arg.{Arg}
 use Rattle.trace_ops.specs.declared.trace.Arg.TheVariants.{Of, Const, Null, Class, Func, Ptr}
 use Rattle.trace_ops.specs.declared.piece.Val.{Val}
@@ -24,7 +25,7 @@ use Rattle.trace_ops.specs.Sound.{AreApart, constants_in_arg, constants_in_val, 
 use Rattle.trace_ops.proofs.Same.{arg_decides}
 use Rattle.resume_numbering.specs.Tags.{small_index, with_integer, with_const, with_consts, MayNumber, MayNumberAll, IsKept}
 use Rattle.resume_numbering.specs.Values.{values_in, values_of_store, IsBoxBelow}
-use Rattle.resume_numbering.specs.Uses.{Guarded, guarded, guarded_by, after_frames, after_shapes, after_pending, after_snapshot, after_guards, MayFrames, MayShapes, MayPending, MayGuards, frames_in, shapes_in}
+use Rattle.resume_numbering.specs.Uses.{Guarded, guarded, after_frames, after_shapes, after_pending, after_snapshot, after_guards, MayFrames, MayShapes, MayPending, MayGuards, frames_in, shapes_in}
 use Rattle.resume_numbering.specs.Conditions.{CanNumber}
 
 assoc : {X : Type 0} (xs ys zs : List X) → (xs ++ ys) ++ zs ≡ xs ++ (ys ++ zs)
@@ -230,16 +231,16 @@ consts_few p can =
 
 -- values
 
-nothing : {X : Type 0} → IsSome {T = X} None → ⊥
-nothing h = cc
+nothing : (X : Type 0) → IsSome {T = X} None → ⊥
+nothing X h = cc
 
 may_value : (n : ℕ) → n < 2 ^ 30 → (v : Val) → IsValue v → IsNumbered n v → IsBoxBelow (2 ^ 30) v → MayNumber v
 may_value n w (Known (Of b)) h k box = box
 may_value n w (Known (Const z)) h k box = tt
 may_value n w (Known Null) h k box = tt
 may_value n w (Known (Ptr m)) h k box = tt
-may_value n w (Known (Class m)) h k box = absurd (nothing h)
-may_value n w (Known (Func m)) h k box = absurd (nothing h)
+may_value n w (Known (Class m)) h k box = absurd (nothing Kind h)
+may_value n w (Known (Func m)) h k box = absurd (nothing Kind h)
 may_value n w (Virtual m) h k box = omega (arith, w, k)
 
 may_all : (vs : List Val) → AllByRecursion MayNumber vs → MayNumberAll vs

@@ -1,5 +1,5 @@
 -- Which pieces can be numbered.
-use Rattle.std.specs.Prelude.{◌≡◌, ℕ, ◌<◌, ◌^◌, List, length, All, Contains, sum_by}
+use Rattle.std.specs.Prelude.{◌≡◌, ◌<◌, ◌^◌, List, length, All, Contains, sum_by}
 use Rattle.std.specs.List.{flat_map}
 use Rattle.trace_ops.specs.declared.trace.BoxId.{BoxId}
 use Rattle.trace_ops.specs.declared.trace.Arg.{Arg}

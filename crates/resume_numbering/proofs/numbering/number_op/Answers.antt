@@ -1,5 +1,3 @@
-use Rattle.std.proofs.Common.{sym, subst}
-use Rattle.resume_numbering.specs.Numbers.{Numbers}
 use Rattle.resume_numbering.proofs.NumberLemmas.{one_numbers, none_numbers}
 use Rattle.resume_numbering.proofs.numbering.number_op.Goals as goal
 

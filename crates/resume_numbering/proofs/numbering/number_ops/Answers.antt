@@ -1,7 +1,5 @@
-use Rattle.std.proofs.Common.{◌≡◌, ◌∙◌, ◌<◌, ◌≤◌, ◌+◌, ap, sym, subst, arith, length, take, drop, List, []}
-use Rattle.std.specs.List.{AllZip}
-use Rattle.resume_numbering.specs.Standing.{HasLowerParents}
-use Rattle.resume_numbering.specs.Uses.{guarded, after_guards, frames_in, shapes_in, NoneTwice}
+use Rattle.std.proofs.Common.{◌∙◌, sym, subst, arith}
+use Rattle.resume_numbering.specs.Uses.{NoneTwice}
 use Rattle.resume_numbering.specs.declared.rows.ResumeTable.{ResumeTable}
 use Rattle.resume_numbering.proofs.NumberLemmas.{room_now, one_more, tabled}
 use Rattle.resume_numbering.proofs.numbering.number_ops.Goals as goal

@@ -1,4 +1,3 @@
-use Rattle.std.proofs.Common.{refl}
 use Rattle.resume_numbering.specs.contracts.rows.VirtualRowPartialEq.TheImpl as virtual_eq
 use Rattle.resume_numbering.proofs.OrderLemmas.{next_is, grows_by, virtuals_keep_by}
 use Rattle.resume_numbering.proofs.numbering.number_shape.Goals as goal

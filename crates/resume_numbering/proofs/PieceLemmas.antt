@@ -219,7 +219,7 @@ snapshot_constants s =
     ∙ ap (λ xs. xs ++ flat_map constants_in_val d) (flat-append constants_in_val a b ∙ ap (λ xs. xs ++ flat_map constants_in_val b) (flat_flat constants_in_val f s.frames) ∙ ap (λ xs. flat_map (λ (x : OptFrame). flat_map constants_in_val x.slots) s.frames ++ xs) (flat_flat constants_in_val h s.shapes))
     ∙ ap (λ xs. flat_map (λ (x : OptFrame). flat_map constants_in_val x.slots) s.frames ++ flat_map (λ (x : Shape). flat_map constants_in_val x.parts) s.shapes ++ xs) stores
 
-constants_are : (ss : List Snapshot) → flat_map constants_in_val (flat_map values_in ss) ≡ flat_map constants_in ss
+pub constants_are : (ss : List Snapshot) → flat_map constants_in_val (flat_map values_in ss) ≡ flat_map constants_in ss
 constants_are ss = flat_flat constants_in_val values_in ss ∙ flat_same (λ s. flat_map constants_in_val (values_in s)) constants_in snapshot_constants ss
 
 pub consts_few : (p : Piece) → CanNumber p → length (after_guards [] (guarded p.ops)) < 2 ^ 30

@@ -223,7 +223,7 @@ fn read_stores(
 }
 
 // The place of the row of a guard.
-fn place_of(rows: &[GuardRow], guard: u32) -> Option<usize>
+pub(crate) fn place_of(rows: &[GuardRow], guard: u32) -> Option<usize>
     ensures { result ≡ place_of guard rows.now }
 {
     rows.iter().position(|row| row.guard == guard)

@@ -287,19 +287,21 @@ fits_can kinds p e =
     let known : All (IsOfKind kinds) vs = All-from_recursion (IsOfKind kinds) vs flat.0 in
     let cs = flat_map constants_in ss in
     let few : length cs ≤ length vs = subst (λ xs. length xs ≤ length vs) (constants_are ss) (constants_few vs) in
-    let total = sums kinds ss snaps.0 in
-    (record {
-      guards_once = guards_apart kinds 0 p.ops a.1;
-      has_frames = all_snaps (λ (s : Snapshot). 0 < length s.frames) (λ s g. g.has_frames) ss snaps.0;
-      one_kind = λ x y c d same. same_kind x.kind y.kind (sym (All-contains (IsOfKind kinds) vs (Known (Of x)) known c) ∙ ap (slice_get kinds) same ∙ All-contains (IsOfKind kinds) vs (Known (Of y)) known d);
-      are_values = all_snaps (λ (s : Snapshot). All IsValue (values_in s)) (λ s. all_values kinds IsValue s (λ v g. g.is_value)) ss snaps.0;
-      virtuals_named = all_snaps (λ (s : Snapshot). All (IsNumbered (length s.shapes)) (values_in s)) (λ s. all_values kinds (IsNumbered (length s.shapes)) s (λ v g. g.named)) ss snaps.0;
-      few_boxes = all_snaps (λ (s : Snapshot). All (IsBoxBelow (2 ^ 30)) (values_in s)) (λ s. all_values kinds (IsBoxBelow (2 ^ 30)) s (λ v g. box_low kinds few_kinds v g.of_kind)) ss snaps.0;
-      few_shapes_each = all_snaps (λ (s : Snapshot). length s.shapes < 2 ^ 30) (λ s g. omega (arith, g.shapes)) ss snaps.0;
-      few_constants = λ some distinct within. omega (arith, few_apart some cs distinct within, few, flat.1, snaps.1, few_ops);
-      few_frames = omega (arith, total.0, snaps.1, few_ops);
-      few_shapes = omega (arith, total.1, snaps.1, few_ops);
-    }, all_snaps (AreOfKind kinds) (λ s. all_values kinds (IsOfKind kinds) s (λ v g. g.of_kind)) ss snaps.0)
+    let total = sums kinds ss snaps.0 in (
+      record {
+        guards_once = guards_apart kinds 0 p.ops a.1;
+        has_frames = all_snaps (λ (s : Snapshot). 0 < length s.frames) (λ s g. g.has_frames) ss snaps.0;
+        one_kind = λ x y c d same. same_kind x.kind y.kind (sym (All-contains (IsOfKind kinds) vs (Known (Of x)) known c) ∙ ap (slice_get kinds) same ∙ All-contains (IsOfKind kinds) vs (Known (Of y)) known d);
+        are_values = all_snaps (λ (s : Snapshot). All IsValue (values_in s)) (λ s. all_values kinds IsValue s (λ v g. g.is_value)) ss snaps.0;
+        virtuals_named = all_snaps (λ (s : Snapshot). All (IsNumbered (length s.shapes)) (values_in s)) (λ s. all_values kinds (IsNumbered (length s.shapes)) s (λ v g. g.named)) ss snaps.0;
+        few_boxes = all_snaps (λ (s : Snapshot). All (IsBoxBelow (2 ^ 30)) (values_in s)) (λ s. all_values kinds (IsBoxBelow (2 ^ 30)) s (λ v g. box_low kinds few_kinds v g.of_kind)) ss snaps.0;
+        few_shapes_each = all_snaps (λ (s : Snapshot). length s.shapes < 2 ^ 30) (λ s g. omega (arith, g.shapes)) ss snaps.0;
+        few_constants = λ some distinct within. omega (arith, few_apart some cs distinct within, few, flat.1, snaps.1, few_ops);
+        few_frames = omega (arith, total.0, snaps.1, few_ops);
+        few_shapes = omega (arith, total.1, snaps.1, few_ops);
+      },
+      all_snaps (AreOfKind kinds) (λ s. all_values kinds (IsOfKind kinds) s (λ v g. g.of_kind)) ss snaps.0,
+    )
 
 -- reading such a piece back
 
@@ -318,21 +320,21 @@ numbered_kinds p table kinds guard n known row is =
     let own = all_at (AreOfKind kinds) (snapshots_in p) is.place found.0.snap known at in
     leads table.consts (IsBoxTagBelow (length kinds)) (IsOfKind kinds) (box_below table.consts kinds) table.frames table.virtuals row found.0.snap found.2.stands (recursion_from_All (IsOfKind kinds) (values_in found.0.snap) own)
 
+past_end : (rows : List GuardRow) (j : ℕ) → j < length rows → slice_get rows j ≡ None → ⊥
+past_end [] j w f = absurd (omega (arith, w))
+past_end (row ∷ rows) zero w f = cc
+past_end (row ∷ rows) (suc j) w f = past_end rows j (omega (arith, w)) f
+
+position-within : (q : GuardRow → Bool) (rows : List GuardRow) (j : ℕ) → position q rows ≡ Some j → j < length rows
+position-within q rows j f = below (nat_lt (position_or_len q rows) (length rows)) refl f
+  where
+    below : (b : Bool) → nat_lt (position_or_len q rows) (length rows) ≡ b → cond b (Some (position_or_len q rows)) None ≡ Some j → j < length rows
+    below true t f = subst (λ i. i < length rows) (unsome (position_or_len q rows) j f) (ltb-true (position_or_len q rows) (length rows) t)
+    below false t f = cc
+
 pub placed_row : (table : ResumeTable) (guard k : ℕ) → place_of guard table.guards ≡ Some k → HasRow table guard
 placed_row table guard k e = by (slice_get table.guards k) refl
   where
     by : (o : Option GuardRow) → slice_get table.guards k ≡ o → HasRow table guard
     by (Some row) g = (row, place_is table guard k row e (sym (get_or_from_slice_get table.guards k row row g)))
-    by None g = absurd (past table.guards k (position-within (λ (r : GuardRow). r.guard == guard) table.guards k e) g)
-
-    past : (rows : List GuardRow) (j : ℕ) → j < length rows → slice_get rows j ≡ None → ⊥
-    past [] j w f = absurd (omega (arith, w))
-    past (row ∷ rows) zero w f = cc
-    past (row ∷ rows) (suc j) w f = past rows j (omega (arith, w)) f
-
-    position-within : (q : GuardRow → Bool) (rows : List GuardRow) (j : ℕ) → position q rows ≡ Some j → j < length rows
-    position-within q rows j f = below (nat_lt (position_or_len q rows) (length rows)) refl f
-      where
-        below : (b : Bool) → nat_lt (position_or_len q rows) (length rows) ≡ b → cond b (Some (position_or_len q rows)) None ≡ Some j → j < length rows
-        below true t f = subst (λ i. i < length rows) (unsome (position_or_len q rows) j f) (ltb-true (position_or_len q rows) (length rows) t)
-        below false t f = cc
+    by None g = absurd (past_end table.guards k (position-within (λ (r : GuardRow). r.guard == guard) table.guards k e) g)

@@ -67,10 +67,7 @@ fn lengths_fit(snap: &Snapshot) -> bool
     ensures { result ≡ lengths_fit snap.now }
 {
     let frames = snap.frames.items().len();
-    0 < frames
-        && frames < 64
-        && snap.shapes.items().len() < 64
-        && snap.pending.items().len() < 64
+    0 < frames && frames < 64 && snap.shapes.items().len() < 64 && snap.pending.items().len() < 64
 }
 
 fn frames_fit(kinds: &[Kind], snap: &Snapshot) -> bool
@@ -106,7 +103,10 @@ fn stores_fit(kinds: &[Kind], snap: &Snapshot) -> bool
 fn snapshot_fits(kinds: &[Kind], snap: &Snapshot) -> bool
     ensures { result ≡ snapshot_fits kinds.now snap.now }
 {
-    lengths_fit(snap) && frames_fit(kinds, snap) && shapes_fit(kinds, snap) && stores_fit(kinds, snap)
+    lengths_fit(snap)
+        && frames_fit(kinds, snap)
+        && shapes_fit(kinds, snap)
+        && stores_fit(kinds, snap)
 }
 
 fn op_fits(kinds: &[Kind], k: usize, op: &OptOp) -> bool

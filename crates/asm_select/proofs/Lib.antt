@@ -1,0 +1,5 @@
+mod Steps
+mod Effects
+mod Micro
+mod Numbers
+mod Arms

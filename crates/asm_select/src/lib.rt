@@ -1,2 +1,10 @@
-//! How a run leaves the code: stubs, the common exit, and the rows of exits.
+//! Instructions for the operations of optimised pieces, and what they do on the machine.
 #![tactic(auto)]
+
+mod form;
+mod laws;
+mod operand;
+mod selected;
+
+pub use laws::code_steps;
+pub use selected::{Selected, select};

@@ -10,12 +10,12 @@ abbrev pub register : ℕ → Reg
 register n = record { 0 = n }
 
 -- frame word k, from rbp on
-abbrev pub frame_word : ℕ → Mem
-frame_word k = At (register 5) (pos (8 * k))
+abbrev pub frame_mem : ℕ → Mem
+frame_mem k = At (register 5) (pos (8 * k))
 
 -- a register is saved in the frame word of its number
 abbrev pub save : ℕ → Instr
-save n = Store (frame_word n) (register n)
+save n = Store (frame_mem n) (register n)
 
 -- the stub of an exit, by its displacement to the common exit: rax is saved, and holds the exit's number
 abbrev pub stub_code : ℤ → ℕ → List Instr

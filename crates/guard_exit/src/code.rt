@@ -2,7 +2,7 @@
 #![tactic(auto)]
 
 ghost use Rattle.std.specs.Prelude.{◌≡◌, ◌<◌, ◌++◌, ◌∷◌, [], pos, IfOk, OnOk};
-ghost use Rattle.guard_exit.specs.Codes.{frame_word, save, stub_code, common_code};
+ghost use Rattle.guard_exit.specs.Codes.{frame_mem, save, stub_code, common_code};
 
 use std::alloc::{AllocError, Global};
 use trace_ops::List;

@@ -3,3 +3,6 @@ mod Effects
 mod Micro
 mod Numbers
 mod Arms
+mod Flagging
+mod Operations
+mod Follows

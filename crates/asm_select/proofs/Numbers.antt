@@ -110,7 +110,7 @@ zero_wrap : (z : ℤ) → IsNear z → is_zero (wrap z) ≡ is_zero z
 zero_wrap (pos n) h = ap is_zero (wrap_pos n h) ∙ positive_zero n
 zero_wrap (negsuc n) h = ap is_zero (wrap_neg n (omega arith)) ∙ positive_zero (2 ^ 64 - 1 - n) ∙ ne_eqb (2 ^ 64 - 1 - n) 0 (λ (e : 2 ^ 64 - 1 - n ≡ 0). omega arith)
 
-zero_is : (z : ℤ) → Decides (is_zero z) (z ≡ pos 0)
+pub zero_is : (z : ℤ) → Decides (is_zero z) (z ≡ pos 0)
 zero_is (pos n) = (λ h. ap pos (eqb-true n 0 h), λ h. (let e : n ≡ 0 = cc in eq-eqb n 0 e))
 zero_is (negsuc n) = (λ h. absurd (cc), λ h. absurd (cc))
 

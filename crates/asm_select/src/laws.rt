@@ -7,3 +7,8 @@ ghost use Rattle.asm_select.specs.Reached.{Steps, Simulates};
 pub fn code_steps()
     ensures { Steps }
 {}
+
+/// The code of a piece comes to the jump of the piece's finish.
+pub fn code_simulates()
+    ensures { Simulates }
+{}

@@ -6,3 +6,4 @@ mod Arms
 mod Flagging
 mod Operations
 mod Follows
+mod Exiting

@@ -102,7 +102,7 @@ homes p n (Imm v) ys s m f c e = imm_goes p (register n) v ys s f c m e
 
 -- ---- a register is brought to a place
 
-store_goes : (p k : ℕ) (w : Reg) (ys : List Slot) (s : State) → IsFit s → CanWrite (Word k) → s.at ≡ 0x40000000 + p → Reach p (Put (Store (frame_mem k) w) ∷ ys) s ys (Has (Word k) (value s (In w)) s)
+pub store_goes : (p k : ℕ) (w : Reg) (ys : List Slot) (s : State) → IsFit s → CanWrite (Word k) → s.at ≡ 0x40000000 + p → Reach p (Put (Store (frame_mem k) w) ∷ ys) s ys (Has (Word k) (value s (In w)) s)
 store_goes p k w ys s f c at =
     let lt = c.there in
     let a = address s (frame_mem k) in

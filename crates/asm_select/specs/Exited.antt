@@ -38,7 +38,7 @@ pub record Exits (ps pc exit : ℕ) (to : ℤ) (u : State) : Type 0 where
 
 abbrev pub StubExits : Type 0
 StubExits =
-    (ps pc exit : ℕ) (to : ℤ) (u : State) → IsFit u → u.at ≡ 0x40000000 + ps → target (0x40000000 + (ps + sizes_of (puts (stub_code to exit)))) to ≡ 0x40000000 + pc → Exits ps pc exit to u
+    (ps pc exit : ℕ) (to : ℤ) (u : State) → exit < 2 ^ 32 → IsFit u → u.at ≡ 0x40000000 + ps → target (0x40000000 + (ps + sizes_of (puts (stub_code to exit)))) to ≡ 0x40000000 + pc → Exits ps pc exit to u
 
 -- ---- a whole straight piece
 
@@ -73,6 +73,7 @@ HasJump k (Go e ∷ xs) = (e ≡ k) ⊎ HasJump k xs
 -- common exit at pc; each jump leads to its stub.
 pub record IsLaidOut (by : Jumps) (code : List ℕ) (p pc : ℕ) (stub_at exit_of : ℕ → ℕ) (to_common : ℕ → ℤ) (slots : List Slot) : Type 0 where
   pub small : length code < 2 ^ 32
+  pub numbers : (k : ℕ) → HasJump k slots → exit_of k < 2 ^ 32
   pub piece : Lists by code p slots
   pub stubs : (k : ℕ) → HasJump k slots → Lists by code (stub_at k) (puts (stub_code (to_common k) (exit_of k)))
   pub common : Lists by code pc (puts common_code)

@@ -6,5 +6,5 @@ mod laws;
 mod operand;
 mod selected;
 
-pub use laws::{code_simulates, code_steps};
+pub use laws::{code_simulates, code_steps, piece_returns, stub_exits};
 pub use selected::{Selected, select};

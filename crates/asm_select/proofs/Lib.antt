@@ -7,3 +7,4 @@ mod Flagging
 mod Operations
 mod Follows
 mod Exiting
+mod Appends

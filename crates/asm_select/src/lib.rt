@@ -1,8 +1,11 @@
 //! Instructions for the operations of optimised pieces, and what they do on the machine.
 #![tactic(auto)]
 
+mod codes;
+mod draft;
 mod form;
 mod laws;
+mod moves;
 mod operand;
 mod selected;
 

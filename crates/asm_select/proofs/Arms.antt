@@ -209,13 +209,13 @@ number_of : (b : Bool) → pos (one_if b) ≡ truth b
 number_of true = refl
 number_of false = refl
 
-truths : (p : ℕ) (cc : Cc) (d : Place) (b : Bool) (ys : List Slot) (s t : State) → MayHold d → AllBut d s t → IsFit t → holds cc t.flags ≡ Some b → t.at ≡ 0x40000000 + p → Reach p (puts (truth_code cc d) ++ ys) t ys (Gives d (truth b) s)
-truths p cc d b ys s t md kept f h at =
+truths : (p : ℕ) (test : Cc) (d : Place) (b : Bool) (ys : List Slot) (s t : State) → MayHold d → AllBut d s t → IsFit t → holds test t.flags ≡ Some b → t.at ≡ 0x40000000 + p → Reach p (puts (truth_code test d) ++ ys) t ys (Gives d (truth b) s)
+truths p test d b ys s t md kept f h at =
     let w = reg_or 11 d in
     let ok = own_works d md in
     let zs = put_code d w in
     let l1 = Put (Movzx w w) ∷ (puts zs ++ ys) in
-    then p (Put (Set cc w) ∷ l1) l1 ys t (set_goes p cc w b l1 t f ok.write h at) (λ u q eu hu.
+    then p (Put (Set test w) ∷ l1) l1 ys t (set_goes p test w b l1 t f ok.write h at) (λ u q eu hu.
     then q l1 (puts zs ++ ys) ys u (movzx_goes q w w (puts zs ++ ys) u hu.2 ok.write eu) (λ v q2 ev hv.
     places d w (truth b) ys s v q2 md
     (hv.0 ∙ ap (λ (z : ℤ). pos (unsigned z % 256)) hu.0 ∙ low_byte (one_if b) (value t (In w)) (one_small b) (f.words (In w)) ∙ number_of b)
@@ -227,25 +227,25 @@ home_not_15 (At (In r)) m = m.not_r15
 home_not_15 (At (Word k)) m = not_15
 home_not_15 (Imm v) m = not_15
 
-pub compare_gives : (p : ℕ) (cc : Cc) (d : Place) (a b : Operand) (x : Bool) (ys : List Slot) (s : State) → MayHold d → CanRead a → CanRead b → IsFit s → holds cc (alu_flags alu.Cmp (read s a) (read s b)) ≡ Some x → s.at ≡ 0x40000000 + p → Reach p (puts (compare_code cc d a b) ++ ys) s ys (Gives d (truth x) s)
-compare_gives p cc d a b x ys s md ra rb f h at =
+pub compare_gives : (p : ℕ) (test : Cc) (d : Place) (a b : Operand) (x : Bool) (ys : List Slot) (s : State) → MayHold d → CanRead a → CanRead b → IsFit s → holds test (alu_flags alu.Cmp (read s a) (read s b)) ≡ Some x → s.at ≡ 0x40000000 + p → Reach p (puts (compare_code test d a b) ++ ys) s ys (Gives d (truth x) s)
+compare_gives p test d a b x ys s md ra rb f h at =
     let w = home_of 11 a in
     let xs = alu_code alu.Cmp w b in
-    let zs = truth_code cc d in
+    let zs = truth_code test d in
     chain p (take_code w a) (xs ++ zs) ys s (homes p 11 a (puts (xs ++ zs) ++ ys) s ra f write_11 at) (λ t q et ht.
     chain q xs zs ys t (compares q alu.Cmp w b (puts zs ++ ys) t refl rb ht.2 (home_not_15 a ra) et) (λ u q2 eu hu.
-    let flags : holds cc u.flags ≡ Some x = ap (holds cc) (hu.0 ∙ ap (λ (y : ℤ). alu_flags alu.Cmp y (read t b)) ht.0 ∙ ap (λ (y : ℤ). alu_flags alu.Cmp (read s a) y) (still_11 b s t rb ht.1)) ∙ h in
-    truths q2 cc d x ys s u md (but_on d s t u (but d r11 s t (covers_11 d) ht.1) (but_wider d r15 t u (covers_15 d) hu.1)) hu.2 flags eu))
+    let flags : holds test u.flags ≡ Some x = ap (holds test) (hu.0 ∙ ap (λ (y : ℤ). alu_flags alu.Cmp y (read t b)) ht.0 ∙ ap (λ (y : ℤ). alu_flags alu.Cmp (read s a) y) (still_11 b s t rb ht.1)) ∙ h in
+    truths q2 test d x ys s u md (but_on d s t u (but d r11 s t (covers_11 d) ht.1) (but_wider d r15 t u (covers_15 d) hu.1)) hu.2 flags eu))
 
-pub test_gives : (p : ℕ) (cc : Cc) (d : Place) (a : Operand) (x : Bool) (ys : List Slot) (s : State) → MayHold d → CanRead a → IsFit s → holds cc (alu_flags alu.Test (read s a) (read s a)) ≡ Some x → s.at ≡ 0x40000000 + p → Reach p (puts (test_code cc d a) ++ ys) s ys (Gives d (truth x) s)
-test_gives p cc d a x ys s md ra f h at =
+pub test_gives : (p : ℕ) (test : Cc) (d : Place) (a : Operand) (x : Bool) (ys : List Slot) (s : State) → MayHold d → CanRead a → IsFit s → holds test (alu_flags alu.Test (read s a) (read s a)) ≡ Some x → s.at ≡ 0x40000000 + p → Reach p (puts (test_code test d a) ++ ys) s ys (Gives d (truth x) s)
+test_gives p test d a x ys s md ra f h at =
     let w = home_of 11 a in
-    let zs = truth_code cc d in
+    let zs = truth_code test d in
     let l1 = Put (Alu alu.Test w w) ∷ (puts zs ++ ys) in
     chain p (take_code w a) (Alu alu.Test w w ∷ zs) ys s (homes p 11 a l1 s ra f write_11 at) (λ t q et ht.
     then q l1 (puts zs ++ ys) ys t (alu_flags_alone q alu.Test w w (puts zs ++ ys) t refl ht.2 et) (λ u q2 eu hu.
-    let flags : holds cc u.flags ≡ Some x = ap (holds cc) (hu.0 ∙ ap (λ (y : ℤ). alu_flags alu.Test y y) ht.0) ∙ h in
-    truths q2 cc d x ys s u md (but_on d s t u (but d r11 s t (covers_11 d) ht.1) (but_wider d r15 t u (covers_15 d) hu.2)) hu.3 flags eu))
+    let flags : holds test u.flags ≡ Some x = ap (holds test) (hu.0 ∙ ap (λ (y : ℤ). alu_flags alu.Test y y) ht.0) ∙ h in
+    truths q2 test d x ys s u md (but_on d s t u (but d r11 s t (covers_11 d) ht.1) (but_wider d r15 t u (covers_15 d) hu.2)) hu.3 flags eu))
 
 -- ---- one operand
 

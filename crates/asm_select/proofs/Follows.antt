@@ -32,7 +32,7 @@ use Rattle.asm_select.proofs.Operations.{unaries, binaries}
 zero_word : IsWord (pos 0)
 zero_word = record { sfits = omega arith }
 
-arg_reads : (at : Where) (a : Arg) → ((b : ℕ) → MayHold (at b)) → IsWordArg a → CanRead (operand_of at a)
+pub arg_reads : (at : Where) (a : Arg) → ((b : ℕ) → MayHold (at b)) → IsWordArg a → CanRead (operand_of at a)
 arg_reads at (Of b) m w = m b.number
 arg_reads at (Const v) m w = w
 arg_reads at Null m w = zero_word

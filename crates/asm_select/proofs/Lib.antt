@@ -8,3 +8,6 @@ mod Operations
 mod Follows
 mod Exiting
 mod Appends
+mod Rows
+mod Standing
+mod Lengths

@@ -4,3 +4,4 @@ pub mod Chosen
 pub mod Reached
 pub mod Exited
 pub mod Given
+pub mod Laid

@@ -3,6 +3,9 @@
 
 ghost use Rattle.asm_select.specs.Reached.{Steps, Simulates};
 ghost use Rattle.asm_select.specs.Exited.{StubExits, PieceReturns};
+ghost use Rattle.asm_select.specs.Laid.{ChosenHaveRows, ExitsHaveRows, ChosenAreShort, SlotsStand, SlotsAreWhole};
+
+use x64_encode::spellings_are_short;
 
 /// The code of an operation does what the operation does.
 pub fn code_steps()
@@ -24,3 +27,34 @@ pub fn stub_exits()
 pub fn piece_returns()
     ensures { PieceReturns }
 {}
+
+/// Each chosen instruction has a row in the table of instructions.
+pub fn chosen_have_rows()
+    ensures { ChosenHaveRows }
+{}
+
+/// Each instruction of a stub and of the common exit has a row.
+pub fn exits_have_rows()
+    ensures { ExitsHaveRows }
+{}
+
+/// With the stubs of its exits, the chosen code has at most 32 bytes for each operation and each argument.
+pub fn chosen_are_short()
+    ensures { ChosenAreShort }
+{
+    spellings_are_short();
+}
+
+/// Slots stand in the bytes of a list of slots of which they are a part.
+pub fn slots_stand()
+    ensures { SlotsStand }
+{
+    spellings_are_short();
+}
+
+/// Decoding the bytes of slots reaches their end with no rest.
+pub fn slots_are_whole()
+    ensures { SlotsAreWhole }
+{
+    spellings_are_short();
+}

@@ -9,5 +9,8 @@ mod moves;
 mod operand;
 mod selected;
 
-pub use laws::{code_simulates, code_steps, piece_returns, stub_exits};
+pub use laws::{
+    chosen_are_short, chosen_have_rows, code_simulates, code_steps, exits_have_rows, piece_returns,
+    slots_are_whole, slots_stand, stub_exits,
+};
 pub use selected::{Selected, select};

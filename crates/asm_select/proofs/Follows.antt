@@ -77,6 +77,7 @@ word_given env after r None e = absurd (outside e)
     test (Goes x) = ⊥
     test (Finishes v) = ⊥
     test Outside = Unit {0}
+
     outside : Outside ≡ Goes after → ⊥
     outside h = subst test h tt
 
@@ -100,9 +101,9 @@ finishes_not v after h = subst test h tt
 leads : (at : Where) (operation : OpCode) (r : BoxId) (args : List Arg) (d : Descr) (v : ℤ) (ops : List OptOp) (env after : Env) (s t : State) → ((b : ℕ) → MayHold (at b)) → IsApart at (opt.Plain operation (Some r) args d) ops → with_box r.number v env ≡ after → Holds at (opt.Plain operation (Some r) args d ∷ ops) env s → Gives (at r.number) v s t → Holds at ops after t × SameArena s t
 leads at operation r args d v ops env after s t m apart e h g = (
   subst (λ (x : Env). Holds at ops x t) e (made at r v ops env s t m
-  (λ c u ne. apart r.number c (inl refl) u ne)
-  (λ c ne u. h.boxes c (inr (λ n. not_named r c ne n, u)))
-  g),
+      (λ c u ne. apart r.number c (inl refl) u ne)
+      (λ c ne u. h.boxes c (inr (λ n. not_named r c ne n, u)))
+      g),
   same_arena (at r.number) s t g.1,
 )
   where

@@ -149,6 +149,7 @@ flags_alone fl next s f = (refl, values, record { others = λ q x y z. values q;
     values : (q : Place) → value (moved next (with_flags fl s)) q ≡ value s q
     values (In r) = refl
     values (Word k) = refl
+
     fits : (q : Place) → IsWord (value (moved next (with_flags fl s)) q)
     fits q = subst IsWord (sym (values q)) (f.words q)
 

@@ -18,7 +18,13 @@ use std::alloc::AllocError;
 use trace_ops::{Arg, BoxId, OpCode, OptOp};
 use x64_encode::{AluOp, Cc, Instr, Place, Reg, ShiftOp};
 
-fn push_two(out: &mut Vec<Instr>, m: Arith, d: Place, a: Operand, b: Operand) -> Result<(), AllocError>
+fn push_two(
+    out: &mut Vec<Instr>,
+    m: Arith,
+    d: Place,
+    a: Operand,
+    b: Operand,
+) -> Result<(), AllocError>
     requires d { IsThere d }
     requires a { IsOperand a }
     requires b { IsOperand b }
@@ -30,7 +36,13 @@ fn push_two(out: &mut Vec<Instr>, m: Arith, d: Place, a: Operand, b: Operand) ->
     push_put(out, d, w)
 }
 
-fn push_commuting(out: &mut Vec<Instr>, m: Arith, d: Place, a: Operand, b: Operand) -> Result<(), AllocError>
+fn push_commuting(
+    out: &mut Vec<Instr>,
+    m: Arith,
+    d: Place,
+    a: Operand,
+    b: Operand,
+) -> Result<(), AllocError>
     requires d { IsThere d }
     requires a { IsOperand a }
     requires b { IsOperand b }
@@ -43,7 +55,13 @@ fn push_commuting(out: &mut Vec<Instr>, m: Arith, d: Place, a: Operand, b: Opera
     }
 }
 
-fn push_shift(out: &mut Vec<Instr>, op: ShiftOp, d: Place, a: Operand, b: Operand) -> Result<(), AllocError>
+fn push_shift(
+    out: &mut Vec<Instr>,
+    op: ShiftOp,
+    d: Place,
+    a: Operand,
+    b: Operand,
+) -> Result<(), AllocError>
     requires d { IsThere d }
     requires a { IsOperand a }
     requires b { IsOperand b }
@@ -55,7 +73,13 @@ fn push_shift(out: &mut Vec<Instr>, op: ShiftOp, d: Place, a: Operand, b: Operan
     }
 }
 
-fn push_shift_by(out: &mut Vec<Instr>, op: ShiftOp, d: Place, a: Operand, v: i64) -> Result<(), AllocError>
+fn push_shift_by(
+    out: &mut Vec<Instr>,
+    op: ShiftOp,
+    d: Place,
+    a: Operand,
+    v: i64,
+) -> Result<(), AllocError>
     requires d { IsThere d }
     requires a { IsOperand a }
     ensures { OnOk result (out.new.items ≡ out.old.items ++ shift_code op d a (Operand.Imm v)) }
@@ -74,7 +98,13 @@ fn low_six(v: i64) -> u8
 }
 
 // By way of rcx, whose word r15 keeps meanwhile.
-fn push_shift_cl(out: &mut Vec<Instr>, op: ShiftOp, d: Place, a: Operand, place: Place) -> Result<(), AllocError>
+fn push_shift_cl(
+    out: &mut Vec<Instr>,
+    op: ShiftOp,
+    d: Place,
+    a: Operand,
+    place: Place,
+) -> Result<(), AllocError>
     requires d { IsThere d }
     requires a { IsOperand a }
     requires place { IsThere place }
@@ -98,7 +128,13 @@ fn push_truth(out: &mut Vec<Instr>, cond: Cc, d: Place) -> Result<(), AllocError
     push_put(out, d, w)
 }
 
-fn push_compare(out: &mut Vec<Instr>, cond: Cc, d: Place, a: Operand, b: Operand) -> Result<(), AllocError>
+fn push_compare(
+    out: &mut Vec<Instr>,
+    cond: Cc,
+    d: Place,
+    a: Operand,
+    b: Operand,
+) -> Result<(), AllocError>
     requires d { IsThere d }
     requires a { IsOperand a }
     requires b { IsOperand b }
@@ -174,7 +210,12 @@ fn push_copy(out: &mut Vec<Instr>, d: Place, a: Operand) -> Result<(), AllocErro
     push_put(out, d, w)
 }
 
-fn push_unary(out: &mut Vec<Instr>, form: Option<Unary>, d: Place, a: Operand) -> Result<(), AllocError>
+fn push_unary(
+    out: &mut Vec<Instr>,
+    form: Option<Unary>,
+    d: Place,
+    a: Operand,
+) -> Result<(), AllocError>
     requires d { IsThere d }
     requires a { IsOperand a }
     ensures { OnOk result (out.new.items ≡ out.old.items ++ unary_code form d a) }
@@ -189,7 +230,13 @@ fn push_unary(out: &mut Vec<Instr>, form: Option<Unary>, d: Place, a: Operand) -
     }
 }
 
-fn push_binary(out: &mut Vec<Instr>, form: Option<Binary>, d: Place, a: Operand, b: Operand) -> Result<(), AllocError>
+fn push_binary(
+    out: &mut Vec<Instr>,
+    form: Option<Binary>,
+    d: Place,
+    a: Operand,
+    b: Operand,
+) -> Result<(), AllocError>
     requires d { IsThere d }
     requires a { IsOperand a }
     requires b { IsOperand b }
@@ -204,7 +251,13 @@ fn push_binary(out: &mut Vec<Instr>, form: Option<Binary>, d: Place, a: Operand,
     }
 }
 
-fn push_one_arg(out: &mut Vec<Instr>, at: &[Place], code: OpCode, r: BoxId, a: Arg) -> Result<(), AllocError>
+fn push_one_arg(
+    out: &mut Vec<Instr>,
+    at: &[Place],
+    code: OpCode,
+    r: BoxId,
+    a: Arg,
+) -> Result<(), AllocError>
     requires there { AreThere at.now }
     requires r { r.number < length at.now }
     requires a { IsIn (length at.now) a }
@@ -214,7 +267,14 @@ fn push_one_arg(out: &mut Vec<Instr>, at: &[Place], code: OpCode, r: BoxId, a: A
     push_unary(out, unary_form(code), d, operand_of(at, a))
 }
 
-fn push_two_args(out: &mut Vec<Instr>, at: &[Place], code: OpCode, r: BoxId, a: Arg, b: Arg) -> Result<(), AllocError>
+fn push_two_args(
+    out: &mut Vec<Instr>,
+    at: &[Place],
+    code: OpCode,
+    r: BoxId,
+    a: Arg,
+    b: Arg,
+) -> Result<(), AllocError>
     requires there { AreThere at.now }
     requires r { r.number < length at.now }
     requires a { IsIn (length at.now) a }
@@ -222,10 +282,22 @@ fn push_two_args(out: &mut Vec<Instr>, at: &[Place], code: OpCode, r: BoxId, a: 
     ensures { OnOk result (out.new.items ≡ out.old.items ++ plain_code (where_in at.now) code (Some r) (a ∷ b ∷ [])) }
 {
     let d = at[r.number as usize];
-    push_binary(out, binary_form(code), d, operand_of(at, a), operand_of(at, b))
+    push_binary(
+        out,
+        binary_form(code),
+        d,
+        operand_of(at, a),
+        operand_of(at, b),
+    )
 }
 
-fn push_plain(out: &mut Vec<Instr>, at: &[Place], code: OpCode, r: BoxId, args: &[Arg]) -> Result<(), AllocError>
+fn push_plain(
+    out: &mut Vec<Instr>,
+    at: &[Place],
+    code: OpCode,
+    r: BoxId,
+    args: &[Arg],
+) -> Result<(), AllocError>
     requires there { AreThere at.now }
     requires r { r.number < length at.now }
     requires args { All (IsIn (length at.now)) args.now }

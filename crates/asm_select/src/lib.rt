@@ -14,3 +14,6 @@ pub use laws::{
     slots_are_whole, slots_stand, stub_exits,
 };
 pub use selected::{Selected, select};
+
+#[cfg(test)]
+mod tests;

@@ -1,10 +1,8 @@
 -- A straight piece of integer operations finishes.
-use Rattle.std.proofs.Common.{◌≡◌, ℕ, ℤ, Option, Some, None, List, [], ◌∷◌, map, length, refl, sym, ap, ◌∙◌, ◌≤◌, ◌⊎◌, inl, inr, arith}
+use Rattle.std.proofs.Common.{◌≡◌, ℕ, ℤ, Option, Some, None, List, [], ◌∷◌, map, length, refl, ap, ◌∙◌, ◌≤◌, ◌⊎◌, inl, inr, arith}
 use Rattle.trace_ops.specs.declared.code.OpCode.{OpCode}
 use Rattle.trace_ops.specs.declared.code.OpCode.TheVariants as code
-use Rattle.trace_ops.specs.declared.trace.BoxId.{BoxId}
 use Rattle.trace_ops.specs.declared.trace.Arg.{Arg}
-use Rattle.trace_ops.specs.declared.trace.Descr.{Descr}
 use Rattle.trace_ops.specs.declared.piece.OptOp.{OptOp}
 use Rattle.trace_ops.specs.declared.piece.OptOp.TheVariants as opt
 use Rattle.trace_ops.specs.declared.facts.Want.TheVariants as want

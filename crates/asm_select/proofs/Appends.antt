@@ -1,13 +1,13 @@
 -- The loop that selects, operation by operation.
-use Rattle.std.proofs.Common.{◌≡◌, ℕ, suc, ◌+◌, ◌<◌, List, [], ◌∷◌, ◌++◌, length, drop, get_or, refl, sym, ap, ◌∙◌, subst, arith, drop-cons, append_assoc, append-nil, ℤ, pos}
+use Rattle.std.proofs.Common.{◌≡◌, ℕ, suc, ◌+◌, ◌<◌, List, [], ◌∷◌, ◌++◌, length, drop, get_or, refl, sym, ap, ◌∙◌, subst, arith, drop-cons, append_assoc, append-nil, pos}
 use Rattle.std.proofs.lemmas.List.{length-append}
 use Rattle.trace_ops.specs.declared.piece.OptOp.{OptOp}
 use Rattle.trace_ops.specs.declared.piece.OptOp.TheVariants as opt
 use Rattle.x64_encode.specs.declared.instr.Instr.{Instr}
 use Rattle.x64_encode.specs.declared.instr.Instr.TheVariants.{Jmp}
 use Rattle.asm_select.specs.Slots.{Slot, Put, Leave, Go, puts, instr_of, unset, instrs_of, jumps_from}
-use Rattle.asm_select.specs.Chosen.{Where, body_of, jump_of, code_of, all_code, starts_from}
-use Rattle.asm_select.specs.Given.{IsOpIn, AreIn, Drafted, with_start, with_instrs, with_jump, with_op}
+use Rattle.asm_select.specs.Chosen.{Where, body_of, code_of, all_code, starts_from}
+use Rattle.asm_select.specs.Given.{IsOpIn, AreIn, Drafted, with_op}
 
 -- what the loop keeps at operation i
 pub record Kept (at : Where) (n : ℕ) (ops : List OptOp) (i : ℕ) (d : Drafted) : Type 0 where

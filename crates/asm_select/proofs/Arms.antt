@@ -1,11 +1,10 @@
 -- What the code of each form of operation gives.
-use Rattle.std.proofs.Common.{◌≡◌, ◌≢◌, ℕ, ◌+◌, ◌%◌, ◌<◌, Bool, true, false, cond, List, [], ◌∷◌, ◌++◌, Option, Some, refl, sym, ap, ◌∙◌, subst, arith, ℤ, pos}
+use Rattle.std.proofs.Common.{◌≡◌, ◌≢◌, ℕ, ◌+◌, ◌%◌, Bool, true, false, cond, List, [], ◌∷◌, ◌++◌, Some, refl, sym, ap, ◌∙◌, subst, arith, ℤ, pos}
 use Rattle.std.specs.Prelude.{◌*ℤ◌, neg_ℤ}
 use Rattle.std.specs.Int.{w64, int_bit_not}
-use Rattle.trace_ops.specs.Words.{IsWord, shift_of, truth}
+use Rattle.trace_ops.specs.Words.{shift_of, truth}
 use Rattle.guard_exit.specs.Codes.{register}
 use Rattle.x64_encode.specs.declared.instr.Reg.{Reg}
-use Rattle.x64_encode.specs.declared.instr.AluOp.{AluOp}
 use Rattle.x64_encode.specs.declared.instr.AluOp.TheVariants as alu
 use Rattle.x64_encode.specs.declared.instr.ShiftOp.{ShiftOp}
 use Rattle.x64_encode.specs.declared.instr.ShiftOp.TheVariants as shift
@@ -15,18 +14,18 @@ use Rattle.x64_encode.specs.declared.instr.Instr.TheVariants.{MovReg, Alu, Imul,
 use Rattle.x64_encode.specs.declared.place.Place.{Place}
 use Rattle.x64_encode.specs.declared.place.Place.TheVariants.{In, Word}
 use Rattle.x64_machine.specs.Words.{wrap, unsigned, alu_result, alu_flags, writes, shifted, holds}
-use Rattle.x64_machine.specs.State.{State, with_low_byte, one_if}
+use Rattle.x64_machine.specs.State.{State, one_if}
 use Rattle.asm_select.specs.declared.form.Arith.{Arith}
 use Rattle.asm_select.specs.declared.form.Arith.TheVariants.{By, Product}
 use Rattle.asm_select.specs.declared.operand.Operand.{Operand}
 use Rattle.asm_select.specs.declared.operand.Operand.TheVariants.{At, Imm}
 use Rattle.asm_select.specs.Slots.{Slot, Put, puts}
-use Rattle.asm_select.specs.Valued.{r11, r15, value, IsThere, MayHold, IsFit, AllBut}
+use Rattle.asm_select.specs.Valued.{r11, r15, value, MayHold, IsFit, AllBut}
 use Rattle.asm_select.specs.Chosen.{same_place, stands_at, reg_or, home_of, load_code, take_code, put_code, alu_code, product_code, arith_code, work_of, two_code, commuting_code, shift_code, truth_code, compare_code, test_code, clamp_code, one_code}
 use Rattle.asm_select.specs.Reached.{Reach, read}
-use Rattle.asm_select.proofs.Steps.{then, chain, weaker, stay, puts-append}
-use Rattle.asm_select.proofs.Effects.{Only, Has, CanWrite, Covers, but, but_on, but_wider, covers_11, covers_15, covers_self, in_other, in_word, same_is, same_not, scratch, may_write}
-use Rattle.asm_select.proofs.Micro.{CanRead, takes, homes, load_takes, put_goes, Computes, computes, Compares, compares, alu_flags_alone, imul_goes, neg_goes, not_goes, shift_goes, shift_cl_goes, mov_goes, set_goes, movzx_goes, Swapped, xchg_goes, alu_writes}
+use Rattle.asm_select.proofs.Steps.{then, chain, weaker, stay}
+use Rattle.asm_select.proofs.Effects.{Only, Has, CanWrite, Covers, but, but_on, but_wider, covers_11, covers_15, covers_self, in_other, same_is, same_not, scratch, may_write}
+use Rattle.asm_select.proofs.Micro.{CanRead, takes, homes, load_takes, put_goes, computes, compares, alu_flags_alone, imul_goes, neg_goes, not_goes, shift_goes, shift_cl_goes, mov_goes, set_goes, movzx_goes, Swapped, xchg_goes, alu_writes}
 use Rattle.asm_select.proofs.Numbers.{low_byte, one_small}
 
 -- the result's place has the word, all but the scratch registers is as before, and the state is fit

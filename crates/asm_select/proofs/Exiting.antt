@@ -1,14 +1,14 @@
 -- A stub, the common exit, and a whole straight piece up to its return.
-use Rattle.std.proofs.Common.{◌≡◌, ◌≢◌, ℕ, zero, suc, ◌+◌, ◌^◌, ◌<◌, ◌≤◌, ◌⊎◌, Bool, true, false, cond, nat_eq, List, [], ◌∷◌, ◌++◌, length, refl, sym, ap, ◌∙◌, subst, inl, inr, ⊎_elim, arith, ℤ, pos, Option, Some, None}
+use Rattle.std.proofs.Common.{◌≡◌, ◌≢◌, ℕ, zero, suc, ◌+◌, ◌^◌, ◌<◌, ◌≤◌, Bool, true, false, cond, nat_eq, List, [], ◌∷◌, ◌++◌, length, refl, sym, ap, ◌∙◌, subst, inl, inr, ⊎_elim, arith, ℤ, pos, Option, Some, None}
 use Rattle.std.specs.Prelude.{◌+ℤ◌}
 use Rattle.std.proofs.lemmas.List.{length-append}
 use Rattle.std.proofs.lemmas.Bool.{eqb-true, eqb-false, eq-eqb, ne_eqb, cases_lt}
 use Rattle.trace_ops.specs.declared.trace.Arg.{Arg}
 use Rattle.trace_ops.specs.declared.trace.Arg.TheVariants.{Of, Const, Null, Class, Func, Ptr}
 use Rattle.trace_ops.specs.Words.{IsWord}
-use Rattle.guard_exit.specs.Codes.{register, frame_mem, save, saved, save_code, stub_code, common_code}
+use Rattle.guard_exit.specs.Codes.{register, save, saved, save_code, stub_code, common_code}
 use Rattle.x64_encode.specs.Form.{spelling}
-use Rattle.x64_encode.specs.declared.instr.Instr.TheVariants.{Store, MovImm, Jmp, Ret}
+use Rattle.x64_encode.specs.declared.instr.Instr.TheVariants.{MovImm, Jmp, Ret}
 use Rattle.x64_encode.specs.declared.place.Place.{Place}
 use Rattle.x64_encode.specs.declared.place.Place.TheVariants.{In, Word}
 use Rattle.x64_machine.specs.declared.state.Stop.TheVariants.{Returned}
@@ -17,11 +17,11 @@ use Rattle.x64_machine.specs.State.{State, reg, with_reg, rsp, stops, target, wo
 use Rattle.x64_machine.specs.Step.{MachineStep}
 use Rattle.asm_select.specs.declared.operand.Operand.{Operand}
 use Rattle.asm_select.specs.declared.operand.Operand.TheVariants.{At, Imm}
-use Rattle.asm_select.specs.Slots.{Slot, Put, Leave, Go, Jumps, Lists, Along, puts, size_of, sizes_of}
+use Rattle.asm_select.specs.Slots.{Slot, Put, Leave, Go, Jumps, Lists, puts, size_of, sizes_of}
 use Rattle.asm_select.specs.Valued.{value, MayHold, IsFit}
 use Rattle.asm_select.specs.Chosen.{Where, operand_of, all_code}
-use Rattle.asm_select.specs.Reached.{Reach, SameArena, read, read_shown, Ended}
-use Rattle.asm_select.specs.Exited.{saved_at, Exits, StubExits, LeadsTo, AllLead, HasJump, read_saved, read_exit, IsLaidOut, Finished, PieceReturns}
+use Rattle.asm_select.specs.Reached.{Reach, read, read_shown}
+use Rattle.asm_select.specs.Exited.{saved_at, StubExits, AllLead, HasJump, read_saved, read_exit, PieceReturns}
 use Rattle.asm_select.proofs.Steps.{moved, stay, then, weaker, along_on, stands_step, on_in, sizes-append}
 use Rattle.asm_select.proofs.Effects.{Only, CanWrite, number, in_word, word_other, scratch, frame_at_word}
 use Rattle.asm_select.proofs.Micro.{store_goes, imm_goes}

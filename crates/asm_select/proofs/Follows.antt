@@ -1,7 +1,6 @@
 -- The code of a piece does what the piece does.
-use Rattle.std.proofs.Common.{◌≡◌, ◌≢◌, ◌⊎◌, ℕ, suc, ◌+◌, ◌<◌, Bool, true, false, cond, List, [], ◌∷◌, ◌++◌, append_assoc, map, Option, Some, None, refl, sym, ap, ◌∙◌, subst, inl, inr, arith, ℤ, pos}
-use Rattle.std.specs.Prelude.{nat_eq, slice_get}
-use Rattle.std.specs.List.{All}
+use Rattle.std.proofs.Common.{◌≡◌, ◌≢◌, ◌⊎◌, ℕ, suc, ◌+◌, true, false, cond, List, [], ◌∷◌, ◌++◌, append_assoc, map, Option, Some, None, refl, sym, ap, ◌∙◌, subst, inl, inr, arith, ℤ, pos}
+use Rattle.std.specs.Prelude.{nat_eq}
 use Rattle.std.proofs.lemmas.Bool.{eqb-true, eqb-false}
 use Rattle.trace_ops.specs.declared.code.OpCode.{OpCode}
 use Rattle.trace_ops.specs.declared.trace.BoxId.{BoxId}
@@ -15,12 +14,10 @@ use Rattle.trace_ops.specs.Folds.{unary, binary, word_of}
 use Rattle.opt_meaning.specs.Boxes.{Env, value_of, with_box}
 use Rattle.opt_meaning.specs.Step.{Stepped, Goes, Finishes, Outside, given, finished_with, opt_step, go_on, opt_run}
 use Rattle.x64_machine.specs.State.{State}
-use Rattle.x64_encode.specs.declared.place.Place.{Place}
-use Rattle.asm_select.specs.declared.operand.Operand.{Operand}
-use Rattle.asm_select.specs.Slots.{Slot, Put, Go, puts}
-use Rattle.asm_select.specs.Valued.{value, MayHold, IsFit, AllBut}
-use Rattle.asm_select.specs.Chosen.{Where, operand_of, plain_code, body_of, code_of, all_code}
-use Rattle.asm_select.specs.Reached.{Reach, IsUse, IsUsedIn, IsUsedBy, IsNamed, Uses, Holds, IsApart, AreApart, IsWordArg, HasWords, read, SameArena, Steps, read_shown, Ended, Simulates}
+use Rattle.asm_select.specs.Slots.{Slot, Go, puts}
+use Rattle.asm_select.specs.Valued.{value, MayHold, IsFit}
+use Rattle.asm_select.specs.Chosen.{Where, operand_of, plain_code, all_code}
+use Rattle.asm_select.specs.Reached.{Reach, IsUse, IsUsedIn, IsNamed, Uses, Holds, IsApart, IsWordArg, HasWords, read, SameArena, Steps, read_shown, Ended, Simulates}
 use Rattle.asm_select.proofs.Steps.{stay, join, weaker}
 use Rattle.asm_select.proofs.Effects.{same_arena}
 use Rattle.asm_select.proofs.Micro.{CanRead}

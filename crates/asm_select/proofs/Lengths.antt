@@ -1,25 +1,23 @@
 -- The chosen code is short.
-use Rattle.std.proofs.Common.{◌≡◌, ℕ, zero, suc, ◌+◌, ◌*◌, ◌≤◌, ◌<◌, Bool, true, false, cond, nat_eq, List, [], ◌∷◌, ◌++◌, length, Option, Some, None, refl, sym, ap, ◌∙◌, subst, arith, ℤ, pos}
+use Rattle.std.proofs.Common.{◌≡◌, ℕ, ◌+◌, ◌*◌, ◌≤◌, Bool, true, false, cond, nat_eq, List, [], ◌∷◌, ◌++◌, length, Option, Some, None, refl, ap, ◌∙◌, arith, ℤ, pos}
 use Rattle.std.specs.Prelude.{nat_lt, ◌||◌}
 use Rattle.std.specs.List.{sum_by}
-use Rattle.std.proofs.lemmas.List.{length-append}
 use Rattle.std.proofs.lemmas.List.Sums.{sum_by-cons}
 use Rattle.trace_ops.specs.declared.code.OpCode.{OpCode}
 use Rattle.trace_ops.specs.declared.trace.BoxId.{BoxId}
 use Rattle.trace_ops.specs.declared.trace.Arg.{Arg}
-use Rattle.trace_ops.specs.declared.trace.Descr.{Descr}
 use Rattle.trace_ops.specs.declared.piece.OptOp.{OptOp}
 use Rattle.trace_ops.specs.declared.piece.OptOp.TheVariants as opt
 use Rattle.trace_ops.specs.Pieces.{args_of}
 use Rattle.trace_ops.specs.Words.{shift_of}
-use Rattle.guard_exit.specs.Codes.{register, frame_mem, save, stub_code}
+use Rattle.guard_exit.specs.Codes.{register, frame_mem, stub_code}
 use Rattle.x64_encode.specs.declared.instr.Reg.{Reg}
 use Rattle.x64_encode.specs.declared.instr.AluOp.{AluOp}
 use Rattle.x64_encode.specs.declared.instr.AluOp.TheVariants as alu
 use Rattle.x64_encode.specs.declared.instr.ShiftOp.{ShiftOp}
 use Rattle.x64_encode.specs.declared.instr.Cc.{Cc}
 use Rattle.x64_encode.specs.declared.instr.Instr.{Instr}
-use Rattle.x64_encode.specs.declared.instr.Instr.TheVariants.{MovReg, Load, Store, MovImm, Alu, AluImm, Imul, Not, Neg, ShiftCl, ShiftImm, Xchg, Set, Movzx, Jmp}
+use Rattle.x64_encode.specs.declared.instr.Instr.TheVariants.{MovReg, Load, Store, MovImm, Alu, AluImm, Imul, Not, Neg, ShiftCl, ShiftImm, Xchg, Set, Movzx}
 use Rattle.x64_encode.specs.declared.place.Place.{Place}
 use Rattle.x64_encode.specs.declared.place.Place.TheVariants.{In, Word}
 use Rattle.x64_encode.specs.Fields.{fits_bits}
@@ -32,8 +30,8 @@ use Rattle.asm_select.specs.declared.form.Binary.{Binary}
 use Rattle.asm_select.specs.declared.form.Binary.TheVariants as binary
 use Rattle.asm_select.specs.declared.operand.Operand.{Operand}
 use Rattle.asm_select.specs.declared.operand.Operand.TheVariants.{At, Imm}
-use Rattle.asm_select.specs.Slots.{Slot, Put, Go, puts, size_of, sizes_of}
-use Rattle.asm_select.specs.Chosen.{Where, operand_of, stands_at, reg_or, home_of, load_code, take_code, put_code, alu_code, product_code, arith_code, work_of, two_code, commuting_code, shift_code, truth_code, compare_code, test_code, clamp_code, one_code, unary_form, binary_form, unary_code, binary_code, plain_code, body_of, jump_of, code_of, all_code}
+use Rattle.asm_select.specs.Slots.{puts, sizes_of}
+use Rattle.asm_select.specs.Chosen.{Where, operand_of, stands_at, reg_or, home_of, load_code, take_code, put_code, alu_code, arith_code, work_of, two_code, shift_code, truth_code, compare_code, test_code, clamp_code, one_code, unary_form, binary_form, unary_code, binary_code, plain_code, body_of, jump_of, code_of, all_code}
 use Rattle.asm_select.specs.Laid.{stub_sizes, ChosenAreShort}
 use Rattle.asm_select.proofs.Steps.{sizes-append}
 

@@ -21,11 +21,11 @@ use Rattle.x64_machine.specs.State.{State, reg, with_reg, with_flags, address, i
 use Rattle.asm_select.specs.declared.operand.Operand.{Operand}
 use Rattle.asm_select.specs.declared.operand.Operand.TheVariants.{At, Imm}
 use Rattle.asm_select.specs.Slots.{Slot, Put, puts}
-use Rattle.asm_select.specs.Valued.{r11, r15, value, IsThere, MayHold, IsFit, AllBut}
+use Rattle.asm_select.specs.Valued.{r15, value, IsThere, MayHold, IsFit, AllBut}
 use Rattle.asm_select.specs.Chosen.{load_code, take_code, put_code, reg_or, home_of, alu_code}
 use Rattle.asm_select.specs.Reached.{Reach, read}
 use Rattle.asm_select.proofs.Steps.{moved, stay, one, then, weaker, puts-append}
-use Rattle.asm_select.proofs.Effects.{Only, Has, CanWrite, but, but_on, but_same, but_wider, covers_15, covers_self, in_other, in_word, scratch, may_write, reg_has, word_has, frame_address, frame_in, frame_read}
+use Rattle.asm_select.proofs.Effects.{Only, Has, CanWrite, but, but_on, covers_15, covers_self, scratch, reg_has, word_has, frame_address, frame_in, frame_read}
 use Rattle.asm_select.proofs.Numbers.{result_fits, not_fits, shifted_fits, low_byte_fits, one_small, byte_fits}
 
 only_same : (p : Place) (s : State) → Only p s s

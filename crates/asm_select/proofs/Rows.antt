@@ -1,8 +1,7 @@
 -- The chosen instructions have rows.
-use Rattle.std.proofs.Common.{◌≡◌, ℕ, suc, ◌+◌, ◌*◌, ◌%◌, ◌^◌, ◌<◌, Bool, true, false, cond, nat_eq, List, [], ◌∷◌, ◌++◌, Option, Some, None, refl, sym, ap, ◌∙◌, arith, ℤ, pos, negsuc}
+use Rattle.std.proofs.Common.{◌≡◌, ℕ, suc, ◌+◌, ◌^◌, ◌<◌, Bool, true, false, cond, nat_eq, List, [], ◌∷◌, ◌++◌, Option, Some, None, refl, arith, ℤ, pos, negsuc}
 use Rattle.std.specs.Prelude.{FitsSigned}
-use Rattle.std.specs.Int.{w32, w64}
-use Rattle.std.specs.List.{All}
+use Rattle.std.specs.Int.{w32}
 use Rattle.std.proofs.lemmas.Bool.{ltb-true}
 use Rattle.trace_ops.specs.declared.code.OpCode.{OpCode}
 use Rattle.trace_ops.specs.declared.code.OpCode.TheVariants as code
@@ -11,7 +10,7 @@ use Rattle.trace_ops.specs.declared.trace.Arg.{Arg}
 use Rattle.trace_ops.specs.declared.trace.Descr.{Descr}
 use Rattle.trace_ops.specs.declared.piece.OptOp.{OptOp}
 use Rattle.trace_ops.specs.declared.piece.OptOp.TheVariants as opt
-use Rattle.trace_ops.specs.Words.{IsWord, shift_of}
+use Rattle.trace_ops.specs.Words.{shift_of}
 use Rattle.guard_exit.specs.Codes.{register, frame_mem, saved, save_code}
 use Rattle.x64_encode.specs.declared.instr.Reg.{Reg}
 use Rattle.x64_encode.specs.declared.instr.AluOp.{AluOp}
@@ -21,7 +20,7 @@ use Rattle.x64_encode.specs.declared.instr.ShiftOp.TheVariants as shift
 use Rattle.x64_encode.specs.declared.instr.Cc.{Cc}
 use Rattle.x64_encode.specs.declared.instr.Cc.TheVariants as cc_is
 use Rattle.x64_encode.specs.declared.instr.Instr.{Instr}
-use Rattle.x64_encode.specs.declared.instr.Instr.TheVariants.{MovReg, Load, Store, MovImm, Alu, AluImm, Imul, Not, Neg, ShiftCl, ShiftImm, Xchg, Set, Movzx, Ret}
+use Rattle.x64_encode.specs.declared.instr.Instr.TheVariants.{MovReg, MovImm, Alu, AluImm, Imul, Not, Neg, ShiftCl, ShiftImm, Xchg}
 use Rattle.x64_encode.specs.declared.place.Place.{Place}
 use Rattle.x64_encode.specs.declared.place.Place.TheVariants.{In, Word}
 use Rattle.x64_encode.specs.Fields.{fits_bits, alu_digit}
@@ -30,9 +29,9 @@ use Rattle.asm_select.specs.declared.form.Arith.{Arith}
 use Rattle.asm_select.specs.declared.form.Arith.TheVariants.{By, Product}
 use Rattle.asm_select.specs.declared.operand.Operand.{Operand}
 use Rattle.asm_select.specs.declared.operand.Operand.TheVariants.{At, Imm}
-use Rattle.asm_select.specs.Slots.{Slot, Put, Leave, Go, Jumps, puts, HaveRows}
+use Rattle.asm_select.specs.Slots.{Slot, Jumps, puts, HaveRows}
 use Rattle.asm_select.specs.Valued.{MayHold}
-use Rattle.asm_select.specs.Chosen.{Where, operand_of, stands_at, reg_or, home_of, load_code, take_code, put_code, alu_code, product_code, arith_code, work_of, two_code, commuting_code, shift_code, truth_code, compare_code, test_code, clamp_code, one_code, unary_form, binary_form, unary_code, binary_code, plain_code, body_of, jump_of, code_of, all_code}
+use Rattle.asm_select.specs.Chosen.{Where, operand_of, stands_at, reg_or, home_of, load_code, take_code, put_code, alu_code, arith_code, work_of, two_code, commuting_code, shift_code, truth_code, compare_code, test_code, clamp_code, one_code, unary_form, binary_form, unary_code, binary_code, plain_code, body_of, jump_of, code_of, all_code}
 use Rattle.asm_select.specs.Reached.{HasWords}
 use Rattle.asm_select.specs.Laid.{AreNear, ChosenHaveRows, ExitsHaveRows}
 use Rattle.asm_select.proofs.Micro.{CanRead}

@@ -1,5 +1,5 @@
 -- The instructions that are chosen for each operation.
-use Rattle.std.specs.Prelude.{ℕ, ◌+◌, ◌==◌, Bool, true, false, if◌then◌else◌, ℤ, pos, Option, Some, None, List, [], ◌∷◌, ◌++◌, length}
+use Rattle.std.specs.Prelude.{ℕ, ◌+◌, ◌==◌, Bool, false, if◌then◌else◌, pos, Option, Some, None, List, [], ◌∷◌, ◌++◌, length}
 use Rattle.trace_ops.specs.declared.code.OpCode.{OpCode}
 use Rattle.trace_ops.specs.declared.code.OpCode.TheVariants as code
 use Rattle.trace_ops.specs.declared.trace.BoxId.{BoxId}
@@ -29,7 +29,7 @@ use Rattle.asm_select.specs.declared.form.Binary.{Binary}
 use Rattle.asm_select.specs.declared.form.Binary.TheVariants as binary
 use Rattle.asm_select.specs.declared.operand.Operand.{Operand}
 use Rattle.asm_select.specs.declared.operand.Operand.TheVariants.{At, Imm}
-use Rattle.asm_select.specs.Slots.{Slot, Put, Leave, Go, puts}
+use Rattle.asm_select.specs.Slots.{Slot, Go, puts}
 
 -- the place of each box
 abbrev pub Where : Type 0

@@ -1,5 +1,5 @@
 -- What selection is given, and what it gives.
-use Rattle.std.specs.Prelude.{◌≡◌, ℕ, ◌<◌, ℤ, pos, Option, Some, None, List, [], ◌∷◌, ◌++◌, length, slice_index_or}
+use Rattle.std.specs.Prelude.{◌≡◌, ℕ, ◌<◌, pos, Some, List, [], ◌∷◌, ◌++◌, length, slice_index_or}
 use Rattle.std.specs.List.{All}
 use Rattle.trace_ops.specs.declared.trace.Arg.{Arg}
 use Rattle.trace_ops.specs.declared.trace.Arg.TheVariants.{Of}

@@ -2,9 +2,11 @@
 #![tactic(auto)]
 
 mod call;
+mod laws;
 mod state;
 mod value;
 
+pub use laws::ended_stays;
 pub use call::{Answer, AnswerStore, CallEvent, Give};
 pub use state::{RecFrame, RecState};
 pub use value::{Object, Store, Value};

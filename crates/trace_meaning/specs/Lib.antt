@@ -1,0 +1,12 @@
+pub mod Values
+pub mod World
+pub mod Objects
+pub mod Folding
+pub mod Answers
+pub mod Performing
+pub mod Passing
+pub mod Boxes
+pub mod Legs
+pub mod Cuts
+pub mod Recorded
+pub mod Observed

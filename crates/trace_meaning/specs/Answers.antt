@@ -125,5 +125,6 @@ abbrev pub new_done : Table → Give → World → World
 new_done t (give.New k) w = with_new (zeroed t k) w
 new_done t _ w = w
 
+-- it gives its result, and makes its stores
 abbrev pub answer_done : Table → List Value → Answer → World → World
-answer_done t vs a w = new_done t a.gives (stores_done t (references vs) a.stores w)
+answer_done t vs a w = stores_done t (references vs) a.stores (new_done t a.gives w)

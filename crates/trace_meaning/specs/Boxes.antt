@@ -1,5 +1,5 @@
 -- The values of boxes and of arguments.
-use Rattle.std.specs.Prelude.{Bool, true, false, if◌then◌else◌, List, [], ◌∷◌, Option, Some, None, option_and_then}
+use Rattle.std.specs.Prelude.{◌≡◌, ◌++◌, Bool, true, false, if◌then◌else◌, List, [], ◌∷◌, Option, Some, None, option_and_then}
 use Rattle.std.specs.Option.{option_map}
 use Rattle.std.specs.Map.{lookup}
 use Rattle.indexmap.specs.IndexMap.{insert_entry}
@@ -55,3 +55,19 @@ with_first _ _ = None
 abbrev pub all_values : (Arg → Option Value) → List Arg → Option (List Value)
 all_values value [] = Some []
 all_values value (a ∷ rest) = if has_value a then with_first (value a) (all_values value rest) else all_values value rest
+
+-- What one argument adds to values that are put together
+
+-- the value stands behind the others
+abbrev pub IsPushed : Option Value → Bool → List Value → List Value → Type 0
+IsPushed (Some x) true before after = after ≡ before ++ x ∷ []
+IsPushed (Some x) false before after = ⊥
+IsPushed None true before after = ⊥
+IsPushed None false before after = Unit {0}
+
+abbrev pub IsAddedIf : Bool → Option Value → Bool → List Value → List Value → Type 0
+IsAddedIf true value there before after = IsPushed value there before after
+IsAddedIf false value there before after = (there ≡ true) × (after ≡ before)
+
+abbrev pub IsAdded : (BoxId → Option Value) → Arg → Bool → List Value → List Value → Type 0
+IsAdded value a there before after = IsAddedIf (has_value a) (arg_value value a) there before after

@@ -17,9 +17,10 @@ use Rattle.trace_meaning.specs.World.{World}
 abbrev pub is_zero : ℤ → Bool
 is_zero a = int_eq a (pos 0)
 
-abbrev pub on_word : (ℤ → Bool) → List Value → Option Bool
-on_word test (v.Int a ∷ []) = Some (test a)
-on_word test _ = None
+-- whether a word is 0
+abbrev pub is_zero_word : List Value → Option Bool
+is_zero_word (v.Int a ∷ []) = Some (is_zero a)
+is_zero_word _ = None
 
 abbrev pub are_equal : List Value → Option Bool
 are_equal (v.Int a ∷ v.Int b ∷ []) = Some (int_eq a b)
@@ -48,28 +49,31 @@ object_has_class size None = None
 object_has_class size (Some o) = Some (is_structure_of size o.of)
 
 -- whether an object is of a size; an array is of none, and null has no class
-abbrev pub has_class : World → Option ℕ → List Value → Option Bool
-has_class w (Some size) (v.Obj n ∷ []) = object_has_class size (slice_get w.objects n)
-has_class w _ _ = None
+abbrev pub has_class : List Object → Option ℕ → List Value → Option Bool
+has_class objects (Some size) (v.Obj n ∷ []) = object_has_class size (slice_get objects n)
+has_class objects _ _ = None
 
-abbrev pub has_class_or_null : World → Option ℕ → List Value → Option Bool
-has_class_or_null w (Some size) (v.Null ∷ []) = Some false
-has_class_or_null w (Some size) (v.Obj n ∷ []) = object_has_class size (slice_get w.objects n)
-has_class_or_null w _ _ = None
+abbrev pub has_class_or_null : List Object → Option ℕ → List Value → Option Bool
+has_class_or_null objects (Some size) (v.Null ∷ []) = Some false
+has_class_or_null objects (Some size) (v.Obj n ∷ []) = object_has_class size (slice_get objects n)
+has_class_or_null objects _ _ = None
 
 abbrev pub negated : Option Bool → Option Bool
 negated x = option_map not x
 
 -- whether a guard passes; none where it goes wrong
+abbrev pub passes_with : OpCode → List Arg → List Value → List Object → Bool → Option Bool
+passes_with code.GuardTrue args vs objects overflow = negated (is_zero_word vs)
+passes_with code.GuardFalse args vs objects overflow = is_zero_word vs
+passes_with code.GuardValue args vs objects overflow = are_equal vs
+passes_with code.GuardNonnull args vs objects overflow = negated (is_null vs)
+passes_with code.GuardIsnull args vs objects overflow = is_null vs
+passes_with code.GuardClass args vs objects overflow = has_class objects (class_in args) vs
+passes_with code.GuardNonnullClass args vs objects overflow = has_class_or_null objects (class_in args) vs
+passes_with code.GuardNoOverflow args vs objects overflow = Some (not overflow)
+passes_with code.GuardOverflow args vs objects overflow = Some overflow
+passes_with code.GuardNoException args vs objects overflow = Some true
+passes_with _ args vs objects overflow = None
+
 abbrev pub passes : OpCode → List Arg → List Value → World → Option Bool
-passes code.GuardTrue args vs w = on_word (λ a. not (is_zero a)) vs
-passes code.GuardFalse args vs w = on_word is_zero vs
-passes code.GuardValue args vs w = are_equal vs
-passes code.GuardNonnull args vs w = negated (is_null vs)
-passes code.GuardIsnull args vs w = is_null vs
-passes code.GuardClass args vs w = has_class w (class_in args) vs
-passes code.GuardNonnullClass args vs w = has_class_or_null w (class_in args) vs
-passes code.GuardNoOverflow args vs w = Some (not w.overflow)
-passes code.GuardOverflow args vs w = Some w.overflow
-passes code.GuardNoException args vs w = Some true
-passes _ args vs w = None
+passes operation args vs w = passes_with operation args vs w.objects w.overflow

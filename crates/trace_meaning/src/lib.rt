@@ -1,8 +1,11 @@
 //! What recorded traces do: stores of objects, calls and their answers, and the run of a trace set.
 #![tactic(auto)]
 
+mod boxes;
 mod call;
+mod folding;
 mod laws;
+mod passing;
 mod state;
 mod value;
 

@@ -10,3 +10,4 @@ pub mod Legs
 pub mod Cuts
 pub mod Recorded
 pub mod Observed
+pub mod Kept

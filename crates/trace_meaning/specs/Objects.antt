@@ -51,9 +51,12 @@ field_place t (shape.Size size) field = position (λ f. f == field) (fields_of t
 field_place t (shape.Array array) field = None
 
 -- an item of an array, at an index that isn't below 0
+abbrev pub index_of : ℤ → Option ℕ
+index_of (pos i) = Some i
+index_of (negsuc i) = None
+
 abbrev pub item_place : ShapeOf → ℕ → ℤ → Option ℕ
-item_place (shape.Array a) array (pos i) = if a == array then Some i else None
-item_place (shape.Array a) array (negsuc i) = None
+item_place (shape.Array a) array i = if a == array then index_of i else None
 item_place (shape.Size s) array i = None
 
 abbrev pub place_of : Table → ShapeOf → Spot → Option ℕ
@@ -65,23 +68,29 @@ place_of t of (spot.Item array i) = item_place of array i
 abbrev pub part_of_object : Table → Spot → Object → Option Value
 part_of_object t at o = option_and_then (slice_get o.parts) (place_of t o.of at)
 
+abbrev pub read_in : Table → Spot → Value → List Object → Option Value
+read_in t at (v.Obj n) objects = option_and_then (part_of_object t at) (slice_get objects n)
+read_in t at (v.Int z) objects = None
+read_in t at v.Null objects = None
+
 abbrev pub read : Table → Spot → Value → World → Option Value
-read t at (v.Obj n) w = option_and_then (part_of_object t at) (slice_get w.objects n)
-read t at (v.Int z) w = None
-read t at v.Null w = None
+read t at base w = read_in t at base w.objects
 
 -- the length of an array of this row
+abbrev pub is_array : ℕ → ShapeOf → Bool
+is_array array (shape.Array a) = a == array
+is_array array (shape.Size s) = false
+
 abbrev pub items_in : ℕ → Object → Option ℕ
-items_in array o = items_of o.of (length o.parts)
-  where
-    items_of : ShapeOf → ℕ → Option ℕ
-    items_of (shape.Array a) n = if a == array then Some n else None
-    items_of (shape.Size s) n = None
+items_in array o = if is_array array o.of then Some (length o.parts) else None
+
+abbrev pub length_in : ℕ → Value → List Object → Option ℕ
+length_in array (v.Obj n) objects = option_and_then (items_in array) (slice_get objects n)
+length_in array (v.Int z) objects = None
+length_in array v.Null objects = None
 
 abbrev pub length_at : ℕ → Value → World → Option ℕ
-length_at array (v.Obj n) w = option_and_then (items_in array) (slice_get w.objects n)
-length_at array (v.Int z) w = None
-length_at array v.Null w = None
+length_at array base w = length_in array base w.objects
 
 -- Writes
 
@@ -101,8 +110,12 @@ with_part o i value = record o { parts = slice_set o.parts i value }
 abbrev pub within : Object → ℕ → Option ℕ
 within o i = if nat_lt i (length o.parts) then Some i else None
 
+-- where a spot lies within an object
+abbrev pub place_within : Table → Spot → Object → Option ℕ
+place_within t at o = option_and_then (within o) (place_of t o.of at)
+
 abbrev pub written : Table → Spot → Value → Object → Option Object
-written t at value o = option_map (λ i. with_part o i value) (option_and_then (within o) (place_of t o.of at))
+written t at value o = option_map (λ i. with_part o i value) (place_within t at o)
 
 -- the objects with another one in place of one of them
 abbrev pub with_object : ℕ → World → Object → World

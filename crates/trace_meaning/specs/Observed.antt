@@ -12,7 +12,7 @@ use Rattle.trace_meaning.specs.declared.call.CallEvent.{CallEvent}
 use Rattle.trace_meaning.specs.declared.state.RecFrame.{RecFrame}
 use Rattle.trace_meaning.specs.declared.state.RecState.{RecState}
 use Rattle.trace_meaning.specs.declared.state.RecState.TheVariants as state
-use Rattle.trace_meaning.specs.World.{World, Logged, bytes_in}
+use Rattle.trace_meaning.specs.World.{World, Logged, events, bytes_in}
 use Rattle.trace_meaning.specs.Legs.{Leave, Fails, Jumps, Finishes, Waits, Misfits, Wrong, Now, In, Over}
 use Rattle.trace_meaning.specs.Recorded.{Rec, RecordedNow}
 
@@ -62,7 +62,7 @@ store_of now = record { objects = (world_of now).objects }
 
 -- the calls so far
 abbrev pub calls_of : RecordedNow → List CallEvent
-calls_of now = map (λ (x : Logged). x.event) (world_of now).log
+calls_of now = events (world_of now).log
 
 -- the bytes allocated so far
 abbrev pub bytes_of : TraceSet → RecordedNow → ℕ

@@ -1,5 +1,5 @@
 -- All that the operations of a trace share, beside its boxes.
-use Rattle.std.specs.Prelude.{ℕ, ◌+◌, Bool, List, length, drop, sum_by}
+use Rattle.std.specs.Prelude.{ℕ, ◌+◌, Bool, List, length, drop, map, sum_by}
 use Rattle.trace_ops.specs.InRange.{bytes_of_object}
 use Rattle.trace_ops.specs.declared.table.Table.{Table}
 use Rattle.trace_meaning.specs.declared.value.Object.{Object}
@@ -10,6 +10,9 @@ use Rattle.trace_meaning.specs.declared.call.Answer.{Answer}
 pub record Logged : Type 0 where
   pub event : CallEvent
   pub bytes : ℕ
+
+abbrev pub events : List Logged → List CallEvent
+events log = map (λ (x : Logged). x.event) log
 
 -- objects so far, the prebuilt ones first; answers to come; calls so far; failures of guards so far; and whether the
 -- last operation that can overflow did

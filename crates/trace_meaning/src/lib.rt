@@ -5,9 +5,11 @@ mod boxes;
 mod call;
 mod folding;
 mod laws;
+mod objects;
 mod passing;
 mod state;
 mod value;
+mod world;
 
 pub use laws::ended_stays;
 pub use call::{Answer, AnswerStore, CallEvent, Give};

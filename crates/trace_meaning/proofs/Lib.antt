@@ -1,3 +1,4 @@
 pub mod Binding
 pub mod Logs
 pub mod Sizes
+pub mod Gathering

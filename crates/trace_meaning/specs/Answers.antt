@@ -18,28 +18,25 @@ use Rattle.trace_meaning.specs.declared.call.Give.TheVariants as give
 use Rattle.trace_meaning.specs.declared.call.AnswerStore.{AnswerStore}
 use Rattle.trace_meaning.specs.declared.call.Answer.{Answer}
 use Rattle.trace_meaning.specs.Values.{references}
+use Rattle.trace_meaning.specs.Passing.{is_structure_of}
 use Rattle.trace_meaning.specs.World.{World}
-use Rattle.trace_meaning.specs.Objects.{read, write, with_new, zeroed, is_frozen}
+use Rattle.trace_meaning.specs.Objects.{read_in, write, with_new, zeroed, is_frozen}
 
 -- What the host sees: of each reference argument that isn't null, in order, the fields that the call reads and that are
 -- fields of its size, in the order in which the call lists them
 
-abbrev pub seen_of : Table → World → List ℕ → Value → List Value
-seen_of t w reads base = flat_map (λ f. option_to_list (read t (Field f) base w)) reads
+abbrev pub seen_of : Table → List Object → List ℕ → Value → List Value
+seen_of t objects reads base = flat_map (λ f. option_to_list (read_in t (Field f) base objects)) reads
 
 abbrev pub seen : Table → CallRow → List Value → World → List Value
-seen t row vs w = flat_map (seen_of t w row.reads) (references vs)
+seen t row vs w = flat_map (seen_of t w.objects row.reads) (references vs)
 
 -- Which answers fit
 
-abbrev pub same_kind : Kind → Kind → Bool
-same_kind kind.Int kind.Int = true
-same_kind kind.Ref kind.Ref = true
-same_kind _ _ = false
-
 abbrev pub same_result : Option Kind → Option Kind → Bool
 same_result None None = true
-same_result (Some k) (Some l) = same_kind k l
+same_result (Some kind.Int) (Some kind.Int) = true
+same_result (Some kind.Ref) (Some kind.Ref) = true
 same_result _ _ = false
 
 -- the kind of what is given, if anything is
@@ -58,10 +55,6 @@ is_named t args (give.Prebuilt k) = nat_lt k (length t.prebuilts)
 is_named t args (give.New k) = nat_lt k (length t.sizes)
 is_named t args _ = true
 
--- the result has the kind that the call gives, and is nothing where it gives none
-abbrev pub result_fits : Table → CallRow → List Value → Give → Bool
-result_fits t row refs given = same_result (kind_given given) row.result && is_named t (length refs) given
-
 -- no new object is stored
 abbrev pub is_new : Give → Bool
 is_new (give.New k) = true
@@ -69,40 +62,44 @@ is_new _ = false
 
 abbrev pub is_size : ℕ → Option Object → Bool
 is_size size None = false
-is_size size (Some o) = is_of size o.of
-  where
-    is_of : ℕ → ShapeOf → Bool
-    is_of size (shape.Size s) = s == size
-    is_of size (shape.Array a) = false
+is_size size (Some o) = is_structure_of size o.of
 
 -- an argument that isn't null, of the field's size, in which the field may be written
-abbrev pub is_base : Table → FieldRow → ℕ → World → Option Value → Bool
-is_base t row field w (Some (v.Obj n)) = is_size row.size (slice_get w.objects n) && not (is_frozen t (Field field) n)
-is_base t row field w _ = false
+abbrev pub is_base : Table → ℕ → ℕ → List Object → Option Value → Bool
+is_base t size field objects (Some (v.Obj n)) = is_size size (slice_get objects n) && not (is_frozen t (Field field) n)
+is_base t size field objects _ = false
 
-abbrev pub store_fits_field : Table → CallRow → List Value → World → AnswerStore → Option FieldRow → Bool
-store_fits_field t row refs w s None = false
-store_fits_field t row refs w s (Some field) =
-    same_result (kind_given s.value) (Some field.kind) && (not (is_new s.value) && (is_named t (length refs) s.value && (is_base t field s.field w (slice_get refs s.arg) && list_any (λ f. f == s.field) row.writes)))
+-- what is given may be stored in a field of this kind
+abbrev pub may_be_stored : Table → ℕ → Kind → Give → Bool
+may_be_stored t args k given = same_result (kind_given given) (Some k) && not (is_new given) && is_named t args given
+
+abbrev pub is_declared : List ℕ → ℕ → Bool
+is_declared writes field = list_any (λ f. f == field) writes
+
+abbrev pub store_fits_field : Table → CallRow → List Value → List Object → AnswerStore → Option FieldRow → Bool
+store_fits_field t row refs objects s None = false
+store_fits_field t row refs objects s (Some field) =
+    may_be_stored t (length refs) field.kind s.value && is_base t field.size s.field objects (slice_get refs s.arg) && is_declared row.writes s.field
 
 -- a store of a value of the field's kind, into a field that the call declares
-abbrev pub store_fits : Table → CallRow → List Value → World → AnswerStore → Bool
-store_fits t row refs w s = store_fits_field t row refs w s (slice_get t.fields s.field)
+abbrev pub store_fits : Table → CallRow → List Value → List Object → AnswerStore → Bool
+store_fits t row refs objects s = store_fits_field t row refs objects s (slice_get t.fields s.field)
 
--- whether an answer fits a call with these arguments
-abbrev pub fits : Table → CallRow → List Value → World → Answer → Bool
-fits t row vs w a = result_fits t row (references vs) a.gives && list_all (store_fits t row (references vs) w) a.stores
+-- whether an answer fits a call with these references among its arguments: its result has the kind that the call
+-- gives, and is nothing where that gives none; and its stores fit
+abbrev pub fits : Table → CallRow → List Value → List Object → Answer → Bool
+fits t row refs objects a = same_result (kind_given a.gives) row.result && is_named t (length refs) a.gives && list_all (store_fits t row refs objects) a.stores
 
 -- What a fitting answer does
 
 -- the value that is given; a new object has the next number
-abbrev pub value_given : List Value → World → Give → Option Value
-value_given refs w give.Nothing = None
-value_given refs w (give.Int z) = Some (v.Int z)
-value_given refs w give.Null = Some v.Null
-value_given refs w (give.Arg k) = slice_get refs k
-value_given refs w (give.Prebuilt k) = Some (v.Obj k)
-value_given refs w (give.New k) = Some (v.Obj (length w.objects))
+abbrev pub value_given : List Value → ℕ → Give → Option Value
+value_given refs next give.Nothing = None
+value_given refs next (give.Int z) = Some (v.Int z)
+value_given refs next give.Null = Some v.Null
+value_given refs next (give.Arg k) = slice_get refs k
+value_given refs next (give.Prebuilt k) = Some (v.Obj k)
+value_given refs next (give.New k) = Some (v.Obj next)
 
 abbrev pub or_same : World → Option World → World
 or_same w None = w
@@ -113,7 +110,7 @@ write_given t field w (Some base) (Some value) = write t (Field field) base valu
 write_given t field w _ _ = None
 
 abbrev pub store_done : Table → List Value → AnswerStore → World → World
-store_done t refs s w = or_same w (write_given t s.field w (slice_get refs s.arg) (value_given refs w s.value))
+store_done t refs s w = or_same w (write_given t s.field w (slice_get refs s.arg) (value_given refs (length w.objects) s.value))
 
 -- its stores, in order
 abbrev pub stores_done : Table → List Value → List AnswerStore → World → World
@@ -121,10 +118,14 @@ stores_done t refs [] w = w
 stores_done t refs (s ∷ rest) w = stores_done t refs rest (store_done t refs s w)
 
 -- the new object, if one is given
-abbrev pub new_done : Table → Give → World → World
-new_done t (give.New k) w = with_new (zeroed t k) w
-new_done t _ w = w
+abbrev pub new_object : Table → Give → Option Object
+new_object t (give.New k) = Some (zeroed t k)
+new_object t _ = None
+
+abbrev pub with_fresh : Option Object → World → World
+with_fresh None w = w
+with_fresh (Some o) w = with_new o w
 
 -- it gives its result, and makes its stores
 abbrev pub answer_done : Table → List Value → Answer → World → World
-answer_done t vs a w = stores_done t (references vs) a.stores (new_done t a.gives w)
+answer_done t refs a w = stores_done t refs a.stores (with_fresh (new_object t a.gives) w)

@@ -11,3 +11,5 @@ pub mod Cuts
 pub mod Recorded
 pub mod Observed
 pub mod Kept
+pub mod Steps
+pub mod Standing

@@ -19,7 +19,7 @@ use Rattle.trace_meaning.specs.declared.call.CallEvent.{CallEvent}
 use Rattle.trace_meaning.specs.declared.call.Answer.{Answer}
 use Rattle.trace_meaning.specs.Values.{references}
 use Rattle.trace_meaning.specs.World.{World, bytes_in}
-use Rattle.trace_meaning.specs.Objects.{read, write, length_at, with_new, zeroed, cleared}
+use Rattle.trace_meaning.specs.Objects.{read, write, length_at, with_new, zeroed, cleared, index_of}
 use Rattle.trace_meaning.specs.Folding.{fold}
 use Rattle.trace_meaning.specs.Answers.{seen, fits, value_given, answer_done}
 
@@ -78,8 +78,12 @@ abbrev pub make_structure : Table → Descr → World → Done
 make_structure t (descr.Size s) w = made (zeroed t s) w
 make_structure t _ w = Bad
 
+abbrev pub make_items : Table → ℕ → Option ℕ → World → Done
+make_items t array None w = Bad
+make_items t array (Some n) w = made (cleared t array n) w
+
 abbrev pub make_array : Table → Descr → List Value → World → Done
-make_array t (descr.Array a) (v.Int (pos n) ∷ []) w = made (cleared t a n) w
+make_array t (descr.Array a) (v.Int z ∷ []) w = make_items t a (index_of z) w
 make_array t _ _ w = Bad
 
 -- Calls
@@ -94,8 +98,8 @@ with_call t event w = record w { log = w.log ++ record { event = event; bytes = 
 -- what is given is in the event; what the host sees is what stood there before its stores
 abbrev pub answered : Table → CallRow → ℕ → List Value → Answer → List Answer → World → Done
 answered t row function vs a rest w =
-    Gave (value_given (references vs) w a.gives)
-      (answer_done t vs a (record (with_call t (event_of t row function vs (value_given (references vs) w a.gives) w) w) { answers = rest }))
+    let gives = value_given (references vs) (length w.objects) a.gives in
+    Gave gives (answer_done t (references vs) a (record (with_call t (event_of t row function vs gives w) w) { answers = rest }))
 
 -- an answer that doesn't fit isn't used
 abbrev pub answered_if : Bool → Table → CallRow → ℕ → List Value → Answer → List Answer → World → Done
@@ -105,7 +109,7 @@ answered_if false t row function vs a rest w = Misfitted (with_call t (event_of 
 -- a call takes the next answer
 abbrev pub called : Table → CallRow → ℕ → List Value → List Answer → World → Done
 called t row function vs [] w = Waited (with_call t (event_of t row function vs None w) w)
-called t row function vs (a ∷ rest) w = answered_if (fits t row vs w a) t row function vs a rest w
+called t row function vs (a ∷ rest) w = answered_if (fits t row (references vs) w.objects a) t row function vs a rest w
 
 abbrev pub call_row : Table → Option CallRow → ℕ → List Value → World → Done
 call_row t None function vs w = Bad

@@ -1,13 +1,13 @@
 //! The boxes of the current trace, with their values.
 
-ghost use Rattle.std.specs.Prelude.{◌≡◌, ◌∷◌, ◌++◌, IfOk, OnOk, OnErr};
+ghost use Rattle.std.specs.Prelude.{◌≡◌, ◌<◌, IfOk, OnOk};
 ghost use Rattle.std.specs.Option.{option_map};
-ghost use Rattle.trace_meaning.specs.Boxes.{value_in, bind, bind_all, bound_to, arg_value, has_value as valued, all_values, IsAdded};
+ghost use Rattle.std.specs.HashMap.{spare};
+ghost use Rattle.trace_meaning.specs.Boxes.{value_in, bind, bound_to, arg_value, has_value as valued, all_values, IsAdded};
 
 use crate::Value;
 use indexmap::IndexMap;
 use std::alloc::{AllocError, Global};
-use std::marker::Model;
 use trace_ops::{Arg, BoxId};
 
 /// Boxes in the order in which they got a value.
@@ -17,14 +17,6 @@ pub struct Boxes {
     values: IndexMap<BoxId, Value>,
 }
 
-impl Model for Boxes {
-    ghost use Rattle.trace_meaning.specs.Boxes.{Boxes as Bindings};
-
-    ghost Value = { Bindings };
-
-    ghost view = { λ b. b.values.entries };
-}
-
 impl Boxes {
     /// These boxes, with these values.
     pub fn bound_to(
@@ -32,7 +24,7 @@ impl Boxes {
         boxes: &[BoxId],
         values: &[Value],
     ) -> Result<Boxes, AllocError>
-        ensures { IfOk result (λ r. r ≡ bound_to boxes.now values.now) }
+        ensures { IfOk result (λ r. r.values.entries ≡ bound_to boxes.now values.now) }
     {
         let mut bound = Boxes {
             alloc,
@@ -44,18 +36,35 @@ impl Boxes {
         Ok(bound)
     }
 
-    /// Gives a box a value.
-    pub fn bind(&mut self, of: BoxId, value: Value) -> Result<(), AllocError>
-        ensures ok { OnOk result (self.new ≡ bind of value self.old) }
-        ensures err { OnErr result (self.new ≡ self.old) }
+    // Gives a box a value.
+    fn bind(&mut self, of: BoxId, value: Value) -> Result<(), AllocError>
+        ensures { OnOk result (self.new.values.entries ≡ bind of value self.old.values.entries) }
     {
         self.values.insert(of, value)?;
         Ok(())
     }
 
+    /// Makes room for one box more.
+    pub fn reserve(&mut self) -> Result<(), AllocError>
+        ensures same { self.new.values.entries ≡ self.old.values.entries }
+        ensures room { OnOk result (0 < spare self.new.values) }
+    {
+        self.values.reserve(1)
+    }
+
+    /// Gives a box a value, where there is room for it.
+    pub fn bind_in_room(&mut self, of: BoxId, value: Value)
+        requires { 0 < spare self.old.values }
+        ensures { self.new.values.entries ≡ bind of value self.old.values.entries }
+    {
+        if let Err(_) = self.values.insert(of, value) {
+            unreachable!();
+        }
+    }
+
     /// The value of an argument. A class and a function have none.
     pub fn value_of(&self, arg: Arg) -> Option<Value>
-        ensures { result ≡ arg_value (value_in self.now) arg }
+        ensures { result ≡ arg_value (value_in self.now.values.entries) arg }
     {
         match arg {
             Arg::Of(of) => self.values.get(&of).copied(),
@@ -69,7 +78,7 @@ impl Boxes {
 
     // Adds the value of an argument that has one; false where a box has no value.
     fn add_value(&self, values: &mut Vec<Value>, arg: Arg) -> Result<bool, AllocError>
-        ensures { IfOk result (λ there. IsAdded (value_in self.now) arg there values.old.items values.new.items) }
+        ensures { IfOk result (λ there. IsAdded (value_in self.now.values.entries) arg there values.old.items values.new.items) }
     {
         if !has_value(arg) {
             return Ok(true);
@@ -83,7 +92,7 @@ impl Boxes {
 
     /// The values of those arguments that have one; none where a box has no value.
     pub fn values_of(&self, args: &[Arg]) -> Result<Option<Vec<Value>>, AllocError>
-        ensures { IfOk result (λ r. option_map (λ v. v.items) r ≡ all_values (arg_value (value_in self.now)) args.now) }
+        ensures { IfOk result (λ r. option_map (λ v. v.items) r ≡ all_values (arg_value (value_in self.now.values.entries)) args.now) }
     {
         let mut values = Vec::new(self.alloc);
         for arg in args {

@@ -3,11 +3,15 @@
 
 mod boxes;
 mod call;
+mod calling;
+mod cursor;
 mod folding;
 mod laws;
 mod objects;
 mod passing;
+mod performing;
 mod state;
+mod steps;
 mod value;
 mod world;
 

@@ -1,6 +1,7 @@
 //! How objects begin, where their parts lie, and what is read of them.
 
-ghost use Rattle.std.specs.Prelude.{◌≡◌, ◌<◌, ◌^◌, ◌==◌, IfOk, slice_get, position};
+ghost use Rattle.std.specs.Prelude.{◌≡◌, ◌<◌, ◌^◌, ◌==◌, IfOk, length, slice_get, position, pos};
+ghost use Rattle.std.specs.Option.{option_map};
 ghost use Rattle.trace_meaning.specs.World.{size_of as object_size};
 ghost use Rattle.trace_meaning.specs.Objects.{fields_of as size_fields, zero_field as field_zero, zero_item as item_zero, zeroed as zeroed_object, cleared as cleared_array, index_of as index_at, field_place as field_at, item_place as item_at, place_of as spot_at, read_in as read_from, length_in as length_from, is_array as array_of, is_frozen as frozen, immutable as fixed, part_of_object};
 
@@ -161,16 +162,23 @@ fn is_array(array: u32, of: ShapeOf) -> bool
     }
 }
 
+// How many values, as a word.
+fn count_of(values: &[Value]) -> Word
+    ensures { result ≡ pos (length values.now) }
+{
+    values.len() as Word
+}
+
 /// The length of a value that is an array of this row.
-pub fn length_at(array: u32, base: Value, objects: &[Object]) -> Option<usize>
-    ensures { result ≡ length_from array base objects.now }
+pub fn length_at(array: u32, base: Value, objects: &[Object]) -> Option<Word>
+    ensures { result ≡ option_map pos (length_from array base objects.now) }
 {
     match base {
         Value::Obj(n) => match objects.get(n as usize) {
             None => None,
             Some(object) => {
                 if is_array(array, object.of) {
-                    Some(object.parts.items().len())
+                    Some(count_of(object.parts.items()))
                 } else {
                     None
                 }

@@ -1,0 +1,88 @@
+//! How one operation moves a run.
+
+ghost use Rattle.std.specs.Prelude.{◌≡◌, ◌+◌, ◌<◌, ◌≤◌, ◌^◌, Some, None, length, slice_get, drop, IfOk, OnOk, OnErr};
+ghost use Rattle.std.specs.HashMap.{spare};
+ghost use Rattle.std.specs.Option.{option_copied};
+ghost use Rattle.trace_ops.specs.declared.facts.Part.TheVariants as Part;
+ghost use Rattle.trace_meaning.specs.declared.state.RecState.TheVariants as RecState;
+ghost use Rattle.trace_meaning.specs.Legs.{Over, In, Wrong as LeftWrong, Finishes, settle, enter, next, On, Off};
+ghost use Rattle.trace_meaning.specs.Recorded.{recorded, recorded_part, recorded_plain, recorded_result, ops_at, ops_of};
+ghost use Rattle.trace_meaning.specs.Performing.{perform as performed, Gave, Done as Meant};
+ghost use Rattle.trace_meaning.specs.Steps.{IsPerformed};
+ghost use Rattle.trace_meaning.specs.Standing.{IsStanding, turned, now_of, rec_of, rest_of};
+
+use crate::cursor::Cursor;
+use crate::performing::{Done, perform};
+use crate::{RecState, Value};
+use std::alloc::{AllocError, Global};
+use trace_ops::{BoxId, Op, TraceSet};
+
+// The operations of a trace.
+fn ops_of_trace(set: &TraceSet, trace: u32) -> &[Op]
+    ensures { result.now ≡ ops_at set.now trace }
+{
+    match set.traces.items().get(trace as usize) {
+        None => &[],
+        Some(trace) => trace.ops.items(),
+    }
+}
+
+// The run goes wrong.
+fn go_wrong(set: &TraceSet, c: &mut Cursor)
+    requires { IsStanding set.now c.old }
+    ensures kept { IsStanding set.now c.new }
+    ensures now { now_of set.now c.new ≡ Over c.old.trace (LeftWrong c.old.world.world) }
+{
+    c.state = RecState::Wrong;
+}
+
+// The run finishes.
+fn finish(set: &TraceSet, c: &mut Cursor, values: Vec<Value>)
+    requires { IsStanding set.now c.old }
+    ensures kept { IsStanding set.now c.new }
+    ensures now { now_of set.now c.new ≡ Over c.old.trace (Finishes values.items c.old.world.world) }
+{
+    c.state = RecState::Finished(values.as_slice().first().copied());
+    c.left = values;
+}
+
+// The run goes on behind a plain operation.
+fn go_on(set: &TraceSet, c: &mut Cursor)
+    requires standing { IsStanding set.now c.old }
+    requires going { c.old.state ≡ RecState.Going }
+    requires within { c.old.at < length (ops_at set.now c.old.trace) }
+    ensures kept { IsStanding set.now c.new }
+    ensures now { now_of set.now c.new ≡ In c.old.trace (drop (c.old.at + 1) (ops_at set.now c.old.trace)) (rec_of c.old) }
+{
+    let count = ops_of_trace(set, c.trace).len();
+    let at = c.at;
+    if at < count {
+        c.at = at + 1;
+    }
+}
+
+// The result of a plain operation gets its value, where there is room for it.
+fn bind_result(
+    set: &TraceSet,
+    c: &mut Cursor,
+    result_box: Option<BoxId>,
+    value: Option<Value>,
+)
+    requires standing { IsStanding set.now c.old }
+    requires going { c.old.state ≡ RecState.Going }
+    requires within { c.old.at < length (ops_at set.now c.old.trace) }
+    requires room { 0 < spare c.old.boxes.values }
+    ensures kept { IsStanding set.now c.new }
+    ensures now { now_of set.now c.new ≡ turned c.old.trace (drop (c.old.at + 1) (ops_at set.now c.old.trace)) (recorded_result result_box (rec_of c.old) value c.old.world.world) }
+{
+    match result_box {
+        None => go_on(set, c),
+        Some(of) => match value {
+            None => go_wrong(set, c),
+            Some(value) => {
+                c.boxes.bind_in_room(of, value);
+                go_on(set, c)
+            }
+        },
+    }
+}

@@ -2,3 +2,4 @@ pub mod Binding
 pub mod Logs
 pub mod Sizes
 pub mod Gathering
+pub mod Performed

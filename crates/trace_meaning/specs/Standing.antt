@@ -1,17 +1,20 @@
 -- Where a runner stands, as a run of the definitions.
-use Rattle.std.specs.Prelude.{◌≡◌, ℕ, ◌≤◌, Option, Some, None, List, length, drop, slice_get}
+use Rattle.std.specs.Prelude.{◌≡◌, ℕ, ◌+◌, ◌≤◌, Option, Some, None, List, length, drop, slice_get}
+use Rattle.trace_ops.specs.declared.trace.BoxId.{BoxId}
 use Rattle.trace_ops.specs.declared.trace.Op.{Op}
 use Rattle.trace_ops.specs.declared.trace.TraceSet.{TraceSet}
 use Rattle.trace_meaning.specs.declared.value.Value.{Value}
 use Rattle.trace_meaning.specs.declared.state.RecState.{RecState}
 use Rattle.trace_meaning.specs.declared.state.RecState.TheVariants as state
 use Rattle.trace_meaning.specs.declared.cursor.Cursor.{Cursor}
+use Rattle.trace_meaning.specs.declared.performing.Done.{Done as Outcome}
+use Rattle.trace_meaning.specs.declared.performing.Done.TheVariants as outcome
 use Rattle.trace_meaning.specs.World.{World}
 use Rattle.trace_meaning.specs.Boxes.{Boxes}
 use Rattle.trace_meaning.specs.Kept.{IsOf}
 use Rattle.trace_meaning.specs.Legs.{Fails, Finishes, Waits, Misfits, Wrong, Now, In, Over, Turn, On, Off, next}
 use Rattle.trace_meaning.specs.Cuts.{Cuts}
-use Rattle.trace_meaning.specs.Recorded.{Rec, RecordedNow, ops_at, recorded}
+use Rattle.trace_meaning.specs.Recorded.{Rec, RecordedNow, ops_at, recorded, recorded_result}
 use Rattle.trace_meaning.specs.Observed.{state_of}
 
 -- a state, with what else is known where the run is inside a trace or has left it
@@ -36,6 +39,7 @@ now_of set c = standing c.state c.trace (rest_of set c) (rec_of c) c.left.items
 -- what holds of a runner of a set
 pub record IsStanding (set : TraceSet) (c : Cursor) : Type 0 where
   pub table : IsOf set.table c.world
+  pub few : length set.traces ≤ 256
   pub within : c.at ≤ length (ops_at set c.trace)
   pub guards : c.guards ≤ c.at
   pub shown : c.state ≡ state_of set (now_of set c)
@@ -54,3 +58,10 @@ stepped r = record r { now = next (recorded r.set r.cuts) r.now }
 abbrev pub turned : ℕ → List Op → Turn Rec → RecordedNow
 turned p rest (On s) = In p rest s
 turned p rest (Off l) = Over p l
+
+-- what came of a plain operation at this place of a trace, in a world that it has changed
+abbrev pub settled : TraceSet → ℕ → ℕ → Rec → Option BoxId → Outcome → RecordedNow
+settled set p at s to (outcome.Gave x) = turned p (drop (at + 1) (ops_at set p)) (recorded_result to s x s.world)
+settled set p at s to outcome.Bad = Over p (Wrong s.world)
+settled set p at s to outcome.Waited = Over p (Waits s.world)
+settled set p at s to (outcome.Misfitted n) = Over p (Misfits s.world)

@@ -76,8 +76,8 @@ fn seen(
     ensures { IfOk result (λ r. r.items ≡ flat_map (seen_in table.now objects.now row.now.reads) references.now) }
 {
     let mut seen = Vec::new(alloc);
-    for base in references {
-        see_fields(&mut seen, table, objects, *base, row.reads.items())?;
+    for k in 0..references.len() {
+        see_fields(&mut seen, table, objects, references[k], row.reads.items())?;
     }
     Ok(seen)
 }

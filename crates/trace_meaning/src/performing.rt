@@ -17,13 +17,13 @@ use trace_ops::{
     wrap_mul, wrap_sub,
 };
 
-/// What came of an operation.
+/// What came of an operation. `Misfitted` has the number of the call, counted from 0.
 #[derive(Clone, Copy)]
 pub enum Done {
     Gave(Option<Value>),
     Bad,
     Waited,
-    Misfitted,
+    Misfitted(u32),
 }
 
 // A value that is there.

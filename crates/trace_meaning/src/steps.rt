@@ -1,15 +1,16 @@
 //! How one operation moves a run.
 
-ghost use Rattle.std.specs.Prelude.{◌≡◌, ◌+◌, ◌<◌, ◌≤◌, ◌^◌, Some, None, length, slice_get, drop, IfOk, OnOk, OnErr};
+ghost use Rattle.std.specs.Prelude.{◌≡◌, ◌+◌, ◌<◌, ◌-◌, ◌^◌, Some, None, length, slice_get, drop, IfOk, OnOk, OnErr};
 ghost use Rattle.std.specs.HashMap.{spare};
 ghost use Rattle.std.specs.Option.{option_copied};
 ghost use Rattle.trace_ops.specs.declared.facts.Part.TheVariants as Part;
+ghost use Rattle.trace_meaning.specs.declared.performing.Done.TheVariants as Done;
 ghost use Rattle.trace_meaning.specs.declared.state.RecState.TheVariants as RecState;
-ghost use Rattle.trace_meaning.specs.Legs.{Over, In, Wrong as LeftWrong, Finishes, settle, enter, next, On, Off};
+ghost use Rattle.trace_meaning.specs.Legs.{Over, In, Wrong as LeftWrong, Waits as LeftWaiting, Misfits as LeftMisfit, Finishes, settle, enter, next, On, Off};
 ghost use Rattle.trace_meaning.specs.Recorded.{recorded, recorded_part, recorded_plain, recorded_result, ops_at, ops_of};
 ghost use Rattle.trace_meaning.specs.Performing.{perform as performed, Gave, Done as Meant};
-ghost use Rattle.trace_meaning.specs.Steps.{IsPerformed};
-ghost use Rattle.trace_meaning.specs.Standing.{IsStanding, turned, now_of, rec_of, rest_of};
+ghost use Rattle.trace_meaning.specs.Steps.{IsNumbered};
+ghost use Rattle.trace_meaning.specs.Standing.{IsStanding, turned, now_of, rec_of, settled};
 
 use crate::cursor::Cursor;
 use crate::performing::{Done, perform};
@@ -85,4 +86,64 @@ fn bind_result(
             }
         },
     }
+}
+
+// The run waits at its last call.
+fn wait(set: &TraceSet, c: &mut Cursor)
+    requires { IsStanding set.now c.old }
+    ensures kept { IsStanding set.now c.new }
+    ensures now { now_of set.now c.new ≡ Over c.old.trace (LeftWaiting c.old.world.world) }
+{
+    c.state = RecState::Waits;
+}
+
+// The answer to the last call doesn't fit.
+fn misfit(set: &TraceSet, c: &mut Cursor, call: u32)
+    requires standing { IsStanding set.now c.old }
+    requires last { call ≡ length c.old.world.world.log - 1 }
+    ensures kept { IsStanding set.now c.new }
+    ensures now { now_of set.now c.new ≡ Over c.old.trace (LeftMisfit c.old.world.world) }
+{
+    c.state = RecState::Misfit { call };
+}
+
+// What came of a plain operation, where there is room for its result.
+fn settle_plain(set: &TraceSet, c: &mut Cursor, to: Option<BoxId>, done: Done)
+    requires standing { IsStanding set.now c.old }
+    requires going { c.old.state ≡ RecState.Going }
+    requires within { c.old.at < length (ops_at set.now c.old.trace) }
+    requires room { 0 < spare c.old.boxes.values }
+    requires last { IsNumbered done c.old.world }
+    ensures kept { IsStanding set.now c.new }
+    ensures now { now_of set.now c.new ≡ settled set.now c.old.trace c.old.at (rec_of c.old) to done }
+{
+    match done {
+        Done::Gave(value) => bind_result(set, c, to, value),
+        Done::Bad => go_wrong(set, c),
+        Done::Waited => wait(set, c),
+        Done::Misfitted(call) => misfit(set, c, call),
+    }
+}
+
+// The operation is a plain one.
+fn make_plain(
+    alloc: Global,
+    set: &TraceSet,
+    c: &mut Cursor,
+    op: &Op,
+    values: &[Value],
+) -> Result<(), AllocError>
+    requires standing { IsStanding set.now c.old }
+    requires going { c.old.state ≡ RecState.Going }
+    requires within { c.old.at < length (ops_at set.now c.old.trace) }
+    requires objects { length c.old.world.world.objects < 2 ^ 31 }
+    requires calls { length c.old.world.world.log < 2 ^ 31 }
+    ensures kept { IsStanding set.now c.new }
+    ensures ok { OnOk result (now_of set.now c.new ≡ turned c.old.trace (drop (c.old.at + 1) (ops_at set.now c.old.trace)) (recorded_plain op.now.result (rec_of c.old) (performed set.now.table op.now.code op.now.descr op.now.args values.now c.old.world.world))) }
+    ensures err { OnErr result (now_of set.now c.new ≡ now_of set.now c.old) }
+{
+    c.boxes.reserve()?;
+    let done = perform(alloc, &set.table, op, values, &mut c.world)?;
+    settle_plain(set, c, op.result, done);
+    Ok(())
 }

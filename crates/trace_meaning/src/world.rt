@@ -1,6 +1,6 @@
 //! Objects, calls and answers of a run, which all operations share.
 
-ghost use Rattle.std.specs.Prelude.{◌≡◌, ◌+◌, ◌<◌, ◌^◌, [], ◌∷◌, ◌++◌, Some, None, true, false, length, slice_get, slice_set, IfOk, OnOk, OnErr, option_and_then};
+ghost use Rattle.std.specs.Prelude.{◌≡◌, ◌+◌, ◌-◌, ◌<◌, ◌≤◌, ◌^◌, [], ◌∷◌, ◌++◌, Some, None, true, false, length, slice_get, slice_set, IfOk, OnOk, OnErr, option_and_then};
 ghost use Rattle.std.specs.Option.{option_copied};
 ghost use Rattle.trace_meaning.specs.World.{failed, events};
 ghost use Rattle.trace_meaning.specs.Objects.{write as written, with_new, with_object, place_within, with_part as part_set};
@@ -182,5 +182,15 @@ impl World {
             unreachable!();
         }
         Ok(())
+    }
+
+    /// The number of the last call, counted from 0.
+    pub fn last_call(&self) -> u32
+        requires some { 0 < length self.now.world.log }
+        requires few { length self.now.world.log ≤ 2 ^ 31 }
+        ensures { result ≡ length self.now.world.log - 1 }
+    {
+        let calls = self.calls();
+        (calls.len() - 1) as u32
     }
 }

@@ -65,19 +65,19 @@ fn see_fields(
     Ok(())
 }
 
-// What the host sees of the references among the arguments.
+// What the host sees of the references among the arguments, where it reads these fields.
 fn seen(
     alloc: Global,
     table: &Table,
     objects: &[Object],
-    row: &CallRow,
+    reads: &[u32],
     references: &[Value],
 ) -> Result<Vec<Value>, AllocError>
-    ensures { IfOk result (λ r. r.items ≡ flat_map (seen_in table.now objects.now row.now.reads) references.now) }
+    ensures { IfOk result (λ r. r.items ≡ flat_map (seen_in table.now objects.now reads.now) references.now) }
 {
     let mut seen = Vec::new(alloc);
-    for k in 0..references.len() {
-        see_fields(&mut seen, table, objects, references[k], row.reads.items())?;
+    for base in references {
+        see_fields(&mut seen, table, objects, *base, reads)?;
     }
     Ok(seen)
 }

@@ -7,6 +7,7 @@ mod calling;
 mod cursor;
 mod folding;
 mod laws;
+mod links;
 mod objects;
 mod passing;
 mod performing;

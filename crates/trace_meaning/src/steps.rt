@@ -7,26 +7,18 @@ ghost use Rattle.trace_ops.specs.declared.facts.Part.TheVariants as Part;
 ghost use Rattle.trace_meaning.specs.declared.performing.Done.TheVariants as Done;
 ghost use Rattle.trace_meaning.specs.declared.state.RecState.TheVariants as RecState;
 ghost use Rattle.trace_meaning.specs.Legs.{Over, In, Wrong as LeftWrong, Waits as LeftWaiting, Misfits as LeftMisfit, Finishes, settle, enter, next, On, Off};
-ghost use Rattle.trace_meaning.specs.Recorded.{recorded, recorded_part, recorded_plain, recorded_result, ops_at, ops_of};
+ghost use Rattle.trace_meaning.specs.Recorded.{recorded, recorded_part, recorded_plain, recorded_result, begin_at, ops_at, jump_target as target_at};
 ghost use Rattle.trace_meaning.specs.Performing.{perform as performed, Gave, Done as Meant};
 ghost use Rattle.trace_meaning.specs.Steps.{IsNumbered};
 ghost use Rattle.trace_meaning.specs.Standing.{IsStanding, turned, now_of, rec_of, settled};
 
 use crate::cursor::Cursor;
+use crate::boxes::Boxes;
+use crate::links::{inputs_of_trace, jump_target, ops_of_trace};
 use crate::performing::{Done, perform};
 use crate::{RecState, Value};
 use std::alloc::{AllocError, Global};
 use trace_ops::{BoxId, Op, TraceSet};
-
-// The operations of a trace.
-fn ops_of_trace(set: &TraceSet, trace: u32) -> &[Op]
-    ensures { result.now ≡ ops_at set.now trace }
-{
-    match set.traces.items().get(trace as usize) {
-        None => &[],
-        Some(trace) => trace.ops.items(),
-    }
-}
 
 // The run goes wrong.
 fn go_wrong(set: &TraceSet, c: &mut Cursor)
@@ -146,4 +138,45 @@ fn make_plain(
     let done = perform(alloc, &set.table, op, values, &mut c.world)?;
     settle_plain(set, c, op.result, done);
     Ok(())
+}
+
+// The run begins a trace with these inputs.
+fn begin(
+    alloc: Global,
+    set: &TraceSet,
+    c: &mut Cursor,
+    trace: u32,
+    values: &[Value],
+) -> Result<(), AllocError>
+    requires standing { IsStanding set.now c.old }
+    requires going { c.old.state ≡ RecState.Going }
+    ensures kept { IsStanding set.now c.new }
+    ensures ok { OnOk result (now_of set.now c.new ≡ In trace (ops_at set.now trace) (begin_at set.now trace values.now c.old.world.world)) }
+    ensures going { OnOk result (c.new.state ≡ RecState.Going) }
+    ensures same { c.new.world ≡ c.old.world }
+    ensures err { OnErr result (now_of set.now c.new ≡ now_of set.now c.old) }
+{
+    let boxes = Boxes::bound_to(alloc, inputs_of_trace(set, trace), values)?;
+    c.boxes = boxes;
+    c.trace = trace;
+    c.at = 0;
+    c.guards = 0;
+    Ok(())
+}
+
+// The run jumps at the end of its trace.
+fn jump(
+    alloc: Global,
+    set: &TraceSet,
+    c: &mut Cursor,
+    values: &[Value],
+) -> Result<(), AllocError>
+    requires standing { IsStanding set.now c.old }
+    requires going { c.old.state ≡ RecState.Going }
+    ensures kept { IsStanding set.now c.new }
+    ensures ok { OnOk result (now_of set.now c.new ≡ In (target_at set.now c.old.trace) (ops_at set.now (target_at set.now c.old.trace)) (begin_at set.now (target_at set.now c.old.trace) values.now c.old.world.world)) }
+    ensures err { OnErr result (now_of set.now c.new ≡ now_of set.now c.old) }
+{
+    let target = jump_target(set, c.trace);
+    begin(alloc, set, c, target, values)
 }

@@ -50,6 +50,7 @@ pub standing-inside : (set : TraceSet) (c d : Cursor) → IsStanding set c → d
 standing-inside set c d h going trace at guards prebuilts = record {
   table = prebuilts ∙ h.table;
   few = h.few;
+  short = h.short;
   within = rw (at, trace) h.within;
   guards = rw (at, guards) h.guards;
   shown = let P : RecState → Type 0 = λ s. s ≡ state_of set (standing s d.trace (rest_of set d) (rec_of d) d.left.items) in subst P (sym going) refl;

@@ -1,11 +1,10 @@
 -- What shows of a run: its state, its objects, its calls and the bytes that it has allocated.
-use Rattle.std.specs.Prelude.{ℕ, ◌-◌, List, [], ◌∷◌, Option, Some, None, length, slice_get, map, take, drop}
+use Rattle.std.specs.Prelude.{ℕ, ◌-◌, List, [], ◌∷◌, Option, Some, None, length, slice_get, map, take, drop, filter}
 use Rattle.std.specs.List.{flat_map}
 use Rattle.trace_ops.specs.declared.trace.Frame.{Frame}
 use Rattle.trace_ops.specs.declared.trace.Op.{Op}
-use Rattle.trace_ops.specs.declared.trace.Trace.{Trace}
 use Rattle.trace_ops.specs.declared.trace.TraceSet.{TraceSet}
-use Rattle.trace_ops.specs.Rules.{guard_op}
+use Rattle.trace_ops.specs.Classes.{is_guard}
 use Rattle.trace_meaning.specs.declared.value.Value.{Value}
 use Rattle.trace_meaning.specs.declared.value.Store.{Store}
 use Rattle.trace_meaning.specs.declared.call.CallEvent.{CallEvent}
@@ -14,7 +13,7 @@ use Rattle.trace_meaning.specs.declared.state.RecState.{RecState}
 use Rattle.trace_meaning.specs.declared.state.RecState.TheVariants as state
 use Rattle.trace_meaning.specs.World.{World, Logged, events, bytes_in}
 use Rattle.trace_meaning.specs.Legs.{Leave, Fails, Jumps, Finishes, Waits, Misfits, Wrong, Now, In, Over}
-use Rattle.trace_meaning.specs.Recorded.{Rec, RecordedNow}
+use Rattle.trace_meaning.specs.Recorded.{Rec, RecordedNow, ops_at}
 
 -- the frames of a guard, outermost first, each with as many of the values as it has slots
 abbrev pub frames_with : List Frame → List Value → List RecFrame
@@ -25,16 +24,19 @@ abbrev pub frames_of_guard : Option Op → List Value → List RecFrame
 frames_of_guard None vs = []
 frames_of_guard (Some op) vs = frames_with op.snapshot vs
 
-abbrev pub frames_in : Option Trace → ℕ → List Value → List RecFrame
-frames_in None n vs = []
-frames_in (Some t) n vs = frames_of_guard (guard_op t n) vs
+-- guard n of some operations, from 0
+abbrev pub guard_in : List Op → ℕ → Option Op
+guard_in ops n = slice_get (filter (λ (op : Op). is_guard op.code) ops) n
+
+abbrev pub frames_at : TraceSet → ℕ → ℕ → List Value → List RecFrame
+frames_at set p n vs = frames_of_guard (guard_in (ops_at set p) n) vs
 
 abbrev pub first_value : List Value → Option Value
 first_value vs = slice_get vs 0
 
 -- how a run that was left so has ended in a trace; a jump ends no run
 abbrev pub ended : TraceSet → ℕ → Leave → RecState
-ended set p (Fails n vs w) = state.Exited p n (frames_in (slice_get set.traces p) n vs)
+ended set p (Fails n vs w) = state.Exited p n (frames_at set p n vs)
 ended set p (Finishes vs w) = state.Finished (first_value vs)
 ended set p (Waits w) = state.Waits
 ended set p (Misfits w) = state.Misfit (length w.log - 1)

@@ -40,6 +40,7 @@ now_of set c = standing c.state c.trace (rest_of set c) (rec_of c) c.left.items
 pub record IsStanding (set : TraceSet) (c : Cursor) : Type 0 where
   pub table : IsOf set.table c.world
   pub few : length set.traces ≤ 256
+  pub short : (p : ℕ) → length (ops_at set p) ≤ 8192
   pub within : c.at ≤ length (ops_at set c.trace)
   pub guards : c.guards ≤ c.at
   pub shown : c.state ≡ state_of set (now_of set c)

@@ -6,6 +6,7 @@ mod call;
 mod calling;
 mod cursor;
 mod folding;
+mod frames;
 mod laws;
 mod links;
 mod objects;

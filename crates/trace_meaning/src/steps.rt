@@ -6,19 +6,23 @@ ghost use Rattle.std.specs.Option.{option_copied};
 ghost use Rattle.trace_ops.specs.declared.facts.Part.TheVariants as Part;
 ghost use Rattle.trace_meaning.specs.declared.performing.Done.TheVariants as Done;
 ghost use Rattle.trace_meaning.specs.declared.state.RecState.TheVariants as RecState;
-ghost use Rattle.trace_meaning.specs.Legs.{Over, In, Wrong as LeftWrong, Waits as LeftWaiting, Misfits as LeftMisfit, Finishes, settle, enter, next, On, Off};
-ghost use Rattle.trace_meaning.specs.Recorded.{recorded, recorded_part, recorded_plain, recorded_result, begin_at, ops_at, jump_target as target_at};
+ghost use Rattle.trace_meaning.specs.Legs.{Over, In, Wrong as LeftWrong, Waits as LeftWaiting, Misfits as LeftMisfit, Finishes, Fails, settle, enter, next, On, Off};
+ghost use Rattle.trace_meaning.specs.Recorded.{recorded, recorded_part, recorded_plain, recorded_result, recorded_failure, recorded_guard, values_of as values_meant, slots_of as slots_meant, begin_at, ops_at, jump_target as target_at};
+ghost use Rattle.trace_meaning.specs.World.{failed};
+ghost use Rattle.trace_meaning.specs.Passing.{passes as passes_meant};
 ghost use Rattle.trace_meaning.specs.Performing.{perform as performed, Gave, Done as Meant};
 ghost use Rattle.trace_meaning.specs.Steps.{IsNumbered};
 ghost use Rattle.trace_meaning.specs.Standing.{IsStanding, turned, now_of, rec_of, settled};
 
 use crate::cursor::Cursor;
 use crate::boxes::Boxes;
-use crate::links::{inputs_of_trace, jump_target, ops_of_trace};
+use crate::frames::{frames_with, guard_in, slots_of};
+use crate::links::{inputs_of_trace, jump_target, ops_of_trace, seen_bridge};
+use crate::passing::passes;
 use crate::performing::{Done, perform};
 use crate::{RecState, Value};
 use std::alloc::{AllocError, Global};
-use trace_ops::{BoxId, Op, TraceSet};
+use trace_ops::{BoxId, List, Op, TraceSet};
 
 // The run goes wrong.
 fn go_wrong(set: &TraceSet, c: &mut Cursor)
@@ -179,4 +183,145 @@ fn jump(
 {
     let target = jump_target(set, c.trace);
     begin(alloc, set, c, target, values)
+}
+
+// The run ends at a failing guard, with its frames.
+fn exit(
+    alloc: Global,
+    set: &TraceSet,
+    c: &mut Cursor,
+    values: Vec<Value>,
+) -> Result<(), AllocError>
+    requires standing { IsStanding set.now c.old }
+    requires going { c.old.state ≡ RecState.Going }
+    ensures kept { IsStanding set.now c.new }
+    ensures ok { OnOk result (now_of set.now c.new ≡ Over c.old.trace (Fails c.old.guards values.items (failed c.old.world.world))) }
+    ensures err { OnErr result (now_of set.now c.new ≡ now_of set.now c.old) }
+{
+    let frames = match guard_in(ops_of_trace(set, c.trace), c.guards) {
+        None => Vec::new(alloc),
+        Some(op) => frames_with(alloc, op.snapshot.items(), &values)?,
+    };
+    c.world.fail()?;
+    c.state = RecState::Exited {
+        trace: c.trace,
+        guard: c.guards as u32,
+        frames: List::of(frames),
+    };
+    c.left = values;
+    Ok(())
+}
+
+// The run goes from a failing guard into a bridge.
+fn enter_bridge(
+    alloc: Global,
+    set: &TraceSet,
+    c: &mut Cursor,
+    bridge: u32,
+    values: &[Value],
+) -> Result<(), AllocError>
+    requires standing { IsStanding set.now c.old }
+    requires going { c.old.state ≡ RecState.Going }
+    ensures kept { IsStanding set.now c.new }
+    ensures ok { OnOk result (now_of set.now c.new ≡ In bridge (ops_at set.now bridge) (begin_at set.now bridge values.now (failed c.old.world.world))) }
+    ensures err { OnErr result (now_of set.now c.new ≡ now_of set.now c.old) }
+{
+    let boxes = Boxes::bound_to(alloc, inputs_of_trace(set, bridge), values)?;
+    c.world.fail()?;
+    c.boxes = boxes;
+    c.trace = bridge;
+    c.at = 0;
+    c.guards = 0;
+    Ok(())
+}
+
+// A guard fails: it counts a failure, and the run goes into the bridge that this failure sees, or ends.
+fn leave_by_guard(
+    alloc: Global,
+    set: &TraceSet,
+    cuts: &[(u32, u64)],
+    c: &mut Cursor,
+    values: Vec<Value>,
+) -> Result<(), AllocError>
+    requires standing { IsStanding set.now c.old }
+    requires going { c.old.state ≡ RecState.Going }
+    ensures kept { IsStanding set.now c.new }
+    ensures ok { OnOk result (now_of set.now c.new ≡ enter (recorded set.now cuts.now) c.old.trace (Fails c.old.guards values.items c.old.world.world)) }
+    ensures err { OnErr result (now_of set.now c.new ≡ now_of set.now c.old) }
+{
+    let failure = c.world.failures();
+    match seen_bridge(set.traces.items(), cuts, c.trace, c.guards, failure) {
+        None => exit(alloc, set, c, values),
+        Some(bridge) => enter_bridge(alloc, set, c, bridge, &values),
+    }
+}
+
+// A guard fails, where its slots have values.
+fn fail_guard(
+    alloc: Global,
+    set: &TraceSet,
+    cuts: &[(u32, u64)],
+    c: &mut Cursor,
+    op: &Op,
+) -> Result<(), AllocError>
+    requires standing { IsStanding set.now c.old }
+    requires going { c.old.state ≡ RecState.Going }
+    ensures kept { IsStanding set.now c.new }
+    ensures ok { OnOk result (now_of set.now c.new ≡ settle (recorded set.now cuts.now) c.old.trace (drop (c.old.at + 1) (ops_at set.now c.old.trace)) (recorded_failure (rec_of c.old) (values_meant (rec_of c.old) (slots_meant op.now.snapshot)))) }
+    ensures err { OnErr result (now_of set.now c.new ≡ now_of set.now c.old) }
+{
+    let slots = slots_of(alloc, op.snapshot.items())?;
+    match c.boxes.values_of(&slots)? {
+        None => {
+            go_wrong(set, c);
+            Ok(())
+        }
+        Some(values) => leave_by_guard(alloc, set, cuts, c, values),
+    }
+}
+
+// A guard passes.
+fn pass_guard(set: &TraceSet, c: &mut Cursor)
+    requires standing { IsStanding set.now c.old }
+    requires going { c.old.state ≡ RecState.Going }
+    requires within { c.old.at < length (ops_at set.now c.old.trace) }
+    ensures kept { IsStanding set.now c.new }
+    ensures now { now_of set.now c.new ≡ In c.old.trace (drop (c.old.at + 1) (ops_at set.now c.old.trace)) (record (rec_of c.old) { guards = c.old.guards + 1 }) }
+{
+    let count = ops_of_trace(set, c.trace).len();
+    let at = c.at;
+    if at < count {
+        c.at = at + 1;
+        c.guards += 1;
+    }
+}
+
+// The operation is a guard.
+fn make_guard(
+    alloc: Global,
+    set: &TraceSet,
+    cuts: &[(u32, u64)],
+    c: &mut Cursor,
+    op: &Op,
+    values: &[Value],
+) -> Result<(), AllocError>
+    requires standing { IsStanding set.now c.old }
+    requires going { c.old.state ≡ RecState.Going }
+    requires within { c.old.at < length (ops_at set.now c.old.trace) }
+    ensures kept { IsStanding set.now c.new }
+    ensures ok { OnOk result (now_of set.now c.new ≡ settle (recorded set.now cuts.now) c.old.trace (drop (c.old.at + 1) (ops_at set.now c.old.trace)) (recorded_guard op.now (rec_of c.old) (passes_meant op.now.code op.now.args values.now c.old.world.world))) }
+    ensures err { OnErr result (now_of set.now c.new ≡ now_of set.now c.old) }
+{
+    let overflow = c.world.overflow();
+    match passes(op.code, op.args.items(), values, c.world.objects(), overflow) {
+        None => {
+            go_wrong(set, c);
+            Ok(())
+        }
+        Some(true) => {
+            pass_guard(set, c);
+            Ok(())
+        }
+        Some(false) => fail_guard(alloc, set, cuts, c, op),
+    }
 }

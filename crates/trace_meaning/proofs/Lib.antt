@@ -3,3 +3,4 @@ pub mod Logs
 pub mod Sizes
 pub mod Gathering
 pub mod Performed
+pub mod Settling

@@ -12,6 +12,7 @@ mod links;
 mod objects;
 mod passing;
 mod performing;
+mod run;
 mod state;
 mod steps;
 mod value;
@@ -19,5 +20,6 @@ mod world;
 
 pub use laws::ended_stays;
 pub use call::{Answer, AnswerStore, CallEvent, Give};
+pub use run::RecRun;
 pub use state::{RecFrame, RecState};
 pub use value::{Object, Store, Value};

@@ -3,11 +3,11 @@
 ghost use Rattle.std.specs.Prelude.{◌≡◌, ◌+◌, ◌<◌, ◌-◌, ◌^◌, Some, None, length, slice_get, drop, IfOk, OnOk, OnErr};
 ghost use Rattle.std.specs.HashMap.{spare};
 ghost use Rattle.std.specs.Option.{option_copied};
-ghost use Rattle.trace_ops.specs.declared.facts.Part.TheVariants as Part;
+ghost use Rattle.trace_ops.specs.Facts.{part_of as part_meant};
 ghost use Rattle.trace_meaning.specs.declared.performing.Done.TheVariants as Done;
 ghost use Rattle.trace_meaning.specs.declared.state.RecState.TheVariants as RecState;
 ghost use Rattle.trace_meaning.specs.Legs.{Over, In, Wrong as LeftWrong, Waits as LeftWaiting, Misfits as LeftMisfit, Finishes, Fails, settle, enter, next, On, Off};
-ghost use Rattle.trace_meaning.specs.Recorded.{recorded, recorded_part, recorded_plain, recorded_result, recorded_failure, recorded_guard, values_of as values_meant, slots_of as slots_meant, begin_at, ops_at, jump_target as target_at};
+ghost use Rattle.trace_meaning.specs.Recorded.{recorded, recorded_part, recorded_step as step_meant, recorded_plain, recorded_result, recorded_failure, recorded_guard, values_of as values_meant, slots_of as slots_meant, begin_at, ops_at, jump_target as target_at};
 ghost use Rattle.trace_meaning.specs.World.{failed};
 ghost use Rattle.trace_meaning.specs.Passing.{passes as passes_meant};
 ghost use Rattle.trace_meaning.specs.Performing.{perform as performed, Gave, Done as Meant};
@@ -22,7 +22,7 @@ use crate::passing::passes;
 use crate::performing::{Done, perform};
 use crate::{RecState, Value};
 use std::alloc::{AllocError, Global};
-use trace_ops::{BoxId, List, Op, TraceSet};
+use trace_ops::{BoxId, List, Op, Part, TraceSet, part_of};
 
 // The run goes wrong.
 fn go_wrong(set: &TraceSet, c: &mut Cursor)
@@ -323,5 +323,116 @@ fn make_guard(
             Ok(())
         }
         Some(false) => fail_guard(alloc, set, cuts, c, op),
+    }
+}
+
+// The run finishes with these values.
+fn end(set: &TraceSet, c: &mut Cursor, values: Vec<Value>) -> Result<(), AllocError>
+    requires { IsStanding set.now c.old }
+    ensures kept { IsStanding set.now c.new }
+    ensures ok { OnOk result (now_of set.now c.new ≡ Over c.old.trace (Finishes values.items c.old.world.world)) }
+    ensures err { OnErr result (now_of set.now c.new ≡ now_of set.now c.old) }
+{
+    finish(set, c, values);
+    Ok(())
+}
+
+// An operation, from the values of those arguments that have one.
+#[tactic(auto, using(crate::proofs::Settling::turned_settles))]
+fn make_op(
+    alloc: Global,
+    set: &TraceSet,
+    cuts: &[(u32, u64)],
+    c: &mut Cursor,
+    op: &Op,
+    values: Vec<Value>,
+) -> Result<(), AllocError>
+    requires standing { IsStanding set.now c.old }
+    requires going { c.old.state ≡ RecState.Going }
+    requires within { c.old.at < length (ops_at set.now c.old.trace) }
+    requires objects { length c.old.world.world.objects < 2 ^ 31 }
+    requires calls { length c.old.world.world.log < 2 ^ 31 }
+    ensures kept { IsStanding set.now c.new }
+    ensures ok { OnOk result (now_of set.now c.new ≡ settle (recorded set.now cuts.now) c.old.trace (drop (c.old.at + 1) (ops_at set.now c.old.trace)) (recorded_part (part_meant op.now.code) set.now.table op.now (rec_of c.old) values.items)) }
+    ensures err { OnErr result (now_of set.now c.new ≡ now_of set.now c.old) }
+{
+    match part_of(op.code) {
+        Part::Jump => jump(alloc, set, c, &values),
+        Part::Finish => end(set, c, values),
+        Part::Guard => make_guard(alloc, set, cuts, c, op, &values),
+        Part::OverflowGuard => make_guard(alloc, set, cuts, c, op, &values),
+        Part::Plain => make_plain(alloc, set, c, op, &values),
+        Part::Overflowing => make_plain(alloc, set, c, op, &values),
+    }
+}
+
+// An operation.
+fn make_step(
+    alloc: Global,
+    set: &TraceSet,
+    cuts: &[(u32, u64)],
+    c: &mut Cursor,
+    op: &Op,
+) -> Result<(), AllocError>
+    requires standing { IsStanding set.now c.old }
+    requires going { c.old.state ≡ RecState.Going }
+    requires within { c.old.at < length (ops_at set.now c.old.trace) }
+    requires objects { length c.old.world.world.objects < 2 ^ 31 }
+    requires calls { length c.old.world.world.log < 2 ^ 31 }
+    ensures kept { IsStanding set.now c.new }
+    ensures ok { OnOk result (now_of set.now c.new ≡ settle (recorded set.now cuts.now) c.old.trace (drop (c.old.at + 1) (ops_at set.now c.old.trace)) (step_meant set.now.table op.now (rec_of c.old))) }
+    ensures err { OnErr result (now_of set.now c.new ≡ now_of set.now c.old) }
+{
+    match c.boxes.values_of(op.args.items())? {
+        None => {
+            go_wrong(set, c);
+            Ok(())
+        }
+        Some(values) => make_op(alloc, set, cuts, c, op, values),
+    }
+}
+
+// One operation of a run that goes on.
+#[tactic(auto, using(crate::proofs::Settling::next_at))]
+fn step_inside(
+    alloc: Global,
+    set: &TraceSet,
+    cuts: &[(u32, u64)],
+    c: &mut Cursor,
+) -> Result<(), AllocError>
+    requires standing { IsStanding set.now c.old }
+    requires going { c.old.state ≡ RecState.Going }
+    requires objects { length c.old.world.world.objects < 2 ^ 31 }
+    requires calls { length c.old.world.world.log < 2 ^ 31 }
+    ensures kept { IsStanding set.now c.new }
+    ensures ok { OnOk result (now_of set.now c.new ≡ next (recorded set.now cuts.now) (In c.old.trace (drop c.old.at (ops_at set.now c.old.trace)) (rec_of c.old))) }
+    ensures err { OnErr result (now_of set.now c.new ≡ now_of set.now c.old) }
+{
+    match ops_of_trace(set, c.trace).get(c.at) {
+        None => {
+            go_wrong(set, c);
+            Ok(())
+        }
+        Some(op) => make_step(alloc, set, cuts, c, op),
+    }
+}
+
+/// One operation; a run that has ended stays.
+pub fn step(
+    alloc: Global,
+    set: &TraceSet,
+    cuts: &[(u32, u64)],
+    c: &mut Cursor,
+) -> Result<(), AllocError>
+    requires standing { IsStanding set.now c.old }
+    requires objects { length c.old.world.world.objects < 2 ^ 31 }
+    requires calls { length c.old.world.world.log < 2 ^ 31 }
+    ensures kept { IsStanding set.now c.new }
+    ensures ok { OnOk result (now_of set.now c.new ≡ next (recorded set.now cuts.now) (now_of set.now c.old)) }
+    ensures err { OnErr result (now_of set.now c.new ≡ now_of set.now c.old) }
+{
+    match c.state {
+        RecState::Going => step_inside(alloc, set, cuts, c),
+        _ => Ok(()),
     }
 }

@@ -59,7 +59,7 @@ fn with_part(
 
 impl World {
     pub fn store(&self) -> &Store
-        ensures { result.now.objects ≡ self.now.world.objects }
+        ensures { result.now ≡ record { objects = self.now.world.objects } }
     {
         &self.store
     }

@@ -1,0 +1,71 @@
+//! The run of recorded traces.
+
+ghost use Rattle.std.specs.Prelude.{◌≡◌, ◌<◌, ◌^◌, length, OnOk, OnErr};
+ghost use Rattle.trace_meaning.specs.Observed.{state_of, store_of, calls_of, bytes_of, world_of};
+ghost use Rattle.trace_meaning.specs.Standing.{stepped};
+
+use crate::cursor::Cursor;
+use crate::steps::step;
+use crate::{CallEvent, RecState, Store};
+use std::alloc::{AllocError, Global};
+use std::marker::Model;
+use trace_ops::TraceSet;
+
+/// A run of recorded traces from a loop of a set: where it stands, its objects and its calls.
+#[derive(Drop)]
+pub struct RecRun {
+    alloc: Global,
+    set: TraceSet,
+    cuts: Vec<(u32, u64)>,
+    cursor: Cursor,
+}
+
+impl Model for RecRun {
+    ghost use Rattle.trace_meaning.specs.Standing.{Run, IsStanding, now_of};
+
+    ghost Value = { Run };
+
+    ghost view = { λ r. record { set = r.set; cuts = r.cuts.items; now = now_of r.set r.cursor } };
+
+    ghost invariant = { λ r. IsStanding r.set r.cursor };
+}
+
+impl RecRun {
+    /// Makes one recorded operation; a run that has ended stays.
+    pub fn step(&mut self) -> Result<(), AllocError>
+        requires objects { length (world_of self.old.now).objects < 2 ^ 31 }
+        requires calls { length (world_of self.old.now).log < 2 ^ 31 }
+        ensures ok { OnOk result (self.new ≡ stepped self.old) }
+        ensures err { OnErr result (self.new ≡ self.old) }
+    {
+        step(self.alloc, &self.set, &self.cuts, &mut self.cursor)
+    }
+
+    /// Where the run stands.
+    pub fn state(&self) -> &RecState
+        ensures { result.now ≡ state_of self.now.set self.now.now }
+    {
+        &self.cursor.state
+    }
+
+    /// All objects so far, the prebuilt ones first.
+    pub fn store(&self) -> &Store
+        ensures { result.now ≡ store_of self.now.now }
+    {
+        self.cursor.world.store()
+    }
+
+    /// The calls so far.
+    pub fn calls(&self) -> &[CallEvent]
+        ensures { result.now ≡ calls_of self.now.now }
+    {
+        self.cursor.world.calls()
+    }
+
+    /// The bytes of all objects that were allocated so far, those of answers among them.
+    pub fn bytes(&self) -> u128
+        ensures { result ≡ bytes_of self.now.set self.now.now }
+    {
+        self.cursor.world.bytes()
+    }
+}

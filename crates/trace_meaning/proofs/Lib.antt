@@ -4,3 +4,4 @@ pub mod Sizes
 pub mod Gathering
 pub mod Performed
 pub mod Settling
+pub mod KeptCalls

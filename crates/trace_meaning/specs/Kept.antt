@@ -42,3 +42,7 @@ IsDone old new false None = new ≡ old
 -- the call stands last among the calls, so many bytes before it
 abbrev pub with_event : ℕ → CallEvent → World → World
 with_event bytes event w = record w { log = w.log ++ record { event = event; bytes = bytes } ∷ [] }
+
+-- the same, and the call has taken the next answer
+abbrev pub with_answered : ℕ → CallEvent → World → World
+with_answered bytes event w = record (with_event bytes event w) { answers = drop 1 w.answers }

@@ -20,6 +20,13 @@ pub fn ops_of_trace(set: &TraceSet, trace: u32) -> &[Op]
     }
 }
 
+/// An operation of a trace.
+pub fn op_at(set: &TraceSet, trace: u32, at: usize) -> Option<&Op>
+    ensures { option_copied result ≡ slice_get (ops_at set.now trace) at }
+{
+    ops_of_trace(set, trace).get(at)
+}
+
 /// The inputs of a trace.
 pub fn inputs_of_trace(set: &TraceSet, trace: u32) -> &[BoxId]
     ensures { result.now ≡ inputs_of (slice_get set.now.traces trace) }

@@ -17,7 +17,7 @@ ghost use Rattle.trace_meaning.specs.Standing.{IsStanding, turned, now_of, rec_o
 use crate::cursor::Cursor;
 use crate::boxes::Boxes;
 use crate::frames::{frames_with, guard_in, slots_of};
-use crate::links::{inputs_of_trace, jump_target, ops_of_trace, seen_bridge};
+use crate::links::{inputs_of_trace, jump_target, ops_of_trace, op_at, seen_bridge};
 use crate::passing::passes;
 use crate::performing::{Done, perform};
 use crate::{RecState, Value};
@@ -393,7 +393,6 @@ fn make_step(
 }
 
 // One operation of a run that goes on.
-#[tactic(auto, using(crate::proofs::Settling::next_at))]
 fn step_inside(
     alloc: Global,
     set: &TraceSet,
@@ -408,12 +407,15 @@ fn step_inside(
     ensures ok { OnOk result (now_of set.now c.new ≡ next (recorded set.now cuts.now) (In c.old.trace (drop c.old.at (ops_at set.now c.old.trace)) (rec_of c.old))) }
     ensures err { OnErr result (now_of set.now c.new ≡ now_of set.now c.old) }
 {
-    match ops_of_trace(set, c.trace).get(c.at) {
+    match op_at(set, c.trace, c.at) {
         None => {
             go_wrong(set, c);
             Ok(())
         }
-        Some(op) => make_step(alloc, set, cuts, c, op),
+        Some(op) => {
+            make_step(alloc, set, cuts, c, op)?;
+            Ok(())
+        }
     }
 }
 

@@ -4,7 +4,7 @@ ghost use Rattle.std.specs.Prelude.{◌≡◌, ◌+◌, ◌-◌, ◌<◌, ◌≤
 ghost use Rattle.std.specs.Option.{option_copied};
 ghost use Rattle.trace_meaning.specs.World.{failed, events};
 ghost use Rattle.trace_meaning.specs.Objects.{write as written, with_new, with_object, place_within, with_part as part_set};
-ghost use Rattle.trace_meaning.specs.Kept.{with_event, with_world, IsOf, IsDone, allocated};
+ghost use Rattle.trace_meaning.specs.Kept.{with_event, with_answered, with_world, IsOf, IsDone, allocated};
 
 use crate::objects::{is_frozen, place_of, size_of};
 use crate::{Answer, CallEvent, Object, Store, Value};
@@ -184,13 +184,40 @@ impl World {
         Ok(())
     }
 
-    /// The number of the last call, counted from 0.
-    pub fn last_call(&self) -> u32
-        requires some { 0 < length self.now.world.log }
-        requires few { length self.now.world.log ≤ 2 ^ 31 }
-        ensures { result ≡ length self.now.world.log - 1 }
+    /// A call that takes the next answer stands last among the calls.
+    pub fn log_answered(&mut self, event: CallEvent) -> Result<(), AllocError>
+        requires { 0 < length self.old.world.answers }
+        ensures ok { OnOk result (self.new ≡ with_world self.old (with_answered (allocated self.old.prebuilts self.old.world.objects) event self.old.world)) }
+        ensures err { OnErr result (self.new ≡ self.old) }
     {
-        let calls = self.calls();
-        (calls.len() - 1) as u32
+        self.spent.reserve(1)?;
+        self.calls.push(event)?;
+        if let Err(_) = self.spent.push(self.bytes) {
+            unreachable!();
+        }
+        self.used += 1;
+        Ok(())
+    }
+
+    /// The same, and a new object besides, which gets the next number.
+    pub fn log_answered_new(&mut self, event: CallEvent, object: Object) -> Result<(), AllocError>
+        requires some { 0 < length self.old.world.answers }
+        requires few { length self.old.world.objects < 2 ^ 31 }
+        ensures ok { OnOk result (self.new ≡ with_world self.old (with_new object (with_answered (allocated self.old.prebuilts self.old.world.objects) event self.old.world))) }
+        ensures err { OnErr result (self.new ≡ self.old) }
+    {
+        let size = size_of(&object);
+        self.spent.reserve(1)?;
+        self.calls.reserve(1)?;
+        self.store.objects.push(object)?;
+        if let Err(_) = self.calls.push(event) {
+            unreachable!();
+        }
+        if let Err(_) = self.spent.push(self.bytes) {
+            unreachable!();
+        }
+        self.used += 1;
+        self.bytes += size;
+        Ok(())
     }
 }

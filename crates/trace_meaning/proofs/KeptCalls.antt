@@ -1,5 +1,5 @@
 -- Worlds with one call more.
-use Rattle.std.proofs.Common.{◌≡◌, ℕ, suc, ◌+◌, Bool, List, ◌∷◌, ◌++◌, [], ◌∙◌, ap, sym, drop, length, arith}
+use Rattle.std.proofs.Common.{◌≡◌, ℕ, zero, suc, refl, add-one, ◌+◌, Bool, List, ◌∷◌, ◌++◌, [], ◌∙◌, ap, sym, drop, length, arith}
 use Rattle.trace_meaning.specs.declared.value.Object.{Object}
 use Rattle.trace_meaning.specs.declared.call.CallEvent.{CallEvent}
 use Rattle.trace_meaning.specs.declared.call.Answer.{Answer}
@@ -36,6 +36,11 @@ module _ (objects : List Object) (es ds : List CallEvent) (ns ms : List ℕ) (e 
       ∙ ap (λ a. kept (objects ++ o ∷ []) a (logged es ns ++ record { event = e; bytes = allocated prebuilts objects } ∷ []) failures overflow prebuilts) used
       ∙ ap (λ j. with_world j (with_new o (with_answered (allocated j.prebuilts j.world.objects) e j.world))) view
 
+dropped : {X : Type 0} (n : ℕ) (xs : List X) → drop (suc n) xs ≡ drop 1 (drop n xs)
+dropped zero xs = refl
+dropped (suc n) [] = refl
+dropped (suc n) (x ∷ xs) = dropped n xs
+
 -- one answer more is used
 pub used_more : {X : Type 0} (n : ℕ) (xs : List X) → drop (n + 1) xs ≡ drop 1 (drop n xs)
-used_more n xs = grind arith
+used_more n xs = ap (λ k. drop k xs) (add-one n) ∙ dropped n xs

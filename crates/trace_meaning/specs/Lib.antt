@@ -13,3 +13,4 @@ pub mod Observed
 pub mod Kept
 pub mod Steps
 pub mod Standing
+pub mod Starting

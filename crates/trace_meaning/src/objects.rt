@@ -1,14 +1,15 @@
 //! How objects begin, where their parts lie, and what is read of them.
 
-ghost use Rattle.std.specs.Prelude.{◌≡◌, ◌<◌, ◌^◌, ◌==◌, IfOk, length, slice_get, position, pos};
+ghost use Rattle.std.specs.Prelude.{◌≡◌, ◌<◌, ◌^◌, ◌==◌, IfOk, length, map, slice_get, position, pos};
 ghost use Rattle.std.specs.Option.{option_map};
+ghost use Rattle.trace_meaning.specs.Recorded.{initial_value as value_begun, prebuilt_object as object_begun};
 ghost use Rattle.trace_meaning.specs.World.{size_of as object_size};
 ghost use Rattle.trace_meaning.specs.Objects.{fields_of as size_fields, zero_field as field_zero, zero_item as item_zero, zeroed as zeroed_object, cleared as cleared_array, index_of as index_at, field_place as field_at, item_place as item_at, place_of as spot_at, read_in as read_from, length_in as length_from, is_array as array_of, is_frozen as frozen, immutable as fixed, part_of_object};
 
 use crate::folding::zero_of;
 use crate::{Object, Value};
 use std::alloc::{AllocError, Global};
-use trace_ops::{List, ShapeOf, Spot, Table, Word};
+use trace_ops::{Initial, List, PrebuiltRow, ShapeOf, Spot, Table, Word};
 
 // The fields of a size, in order.
 fn fields_of(table: &Table, size: u32) -> &[u32]
@@ -208,4 +209,38 @@ pub fn is_frozen(table: &Table, at: Spot, n: u32) -> bool
         }
         Spot::Item(_, _) => false,
     }
+}
+
+fn initial_value(initial: Initial) -> Value
+    ensures { result ≡ value_begun initial }
+{
+    match initial {
+        Initial::Int(word) => Value::Int(word),
+        Initial::Null => Value::Null,
+        Initial::Ptr(k) => Value::Obj(k),
+    }
+}
+
+fn prebuilt_object(alloc: Global, row: &PrebuiltRow) -> Result<Object, AllocError>
+    ensures { IfOk result (λ o. o ≡ object_begun row.now) }
+{
+    let mut parts = Vec::new(alloc);
+    for initial in row.parts.items() {
+        parts.push(initial_value(*initial))?;
+    }
+    Ok(Object {
+        of: row.of,
+        parts: List::of(parts),
+    })
+}
+
+/// The prebuilt objects, in order.
+pub fn prebuilt_objects(alloc: Global, rows: &[PrebuiltRow]) -> Result<Vec<Object>, AllocError>
+    ensures { IfOk result (λ r. r.items ≡ map object_begun rows.now) }
+{
+    let mut objects = Vec::new(alloc);
+    for row in rows {
+        objects.push(prebuilt_object(alloc, row)?)?;
+    }
+    Ok(objects)
 }

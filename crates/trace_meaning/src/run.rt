@@ -1,12 +1,18 @@
 //! The run of recorded traces.
 
-ghost use Rattle.std.specs.Prelude.{◌≡◌, ◌<◌, ◌^◌, length, OnOk, OnErr};
+ghost use Rattle.std.specs.Prelude.{◌≡◌, ◌<◌, ◌^◌, length, IfOk, OnOk, OnErr};
+ghost use Rattle.trace_ops.specs.InRange.{IsInRange};
+ghost use Rattle.trace_ops.specs.WellFormed.{IsWellFormed};
+ghost use Rattle.trace_meaning.specs.Starting.{Starts, begun};
 ghost use Rattle.trace_meaning.specs.Observed.{state_of, store_of, calls_of, bytes_of, world_of};
 ghost use Rattle.trace_meaning.specs.Standing.{stepped};
 
+use crate::boxes::Boxes;
 use crate::cursor::Cursor;
+use crate::links::inputs_of_trace;
 use crate::steps::step;
-use crate::{CallEvent, RecState, Store};
+use crate::world::World;
+use crate::{Answer, CallEvent, RecState, Store, Value};
 use std::alloc::{AllocError, Global};
 use std::marker::Model;
 use trace_ops::TraceSet;
@@ -31,6 +37,41 @@ impl Model for RecRun {
 }
 
 impl RecRun {
+    /// A run from a loop of a set, with its inputs, the answers to its calls in order, and its cuts: each attached bridge,
+    /// and how many guards had failed by then.
+    pub fn new(
+        alloc: Global,
+        checked_set: &TraceSet,
+        start: u32,
+        inputs: Vec<Value>,
+        answers: Vec<Answer>,
+        cuts: Vec<(u32, u64)>,
+    ) -> Result<RecRun, AllocError>
+        requires in_range { IsInRange checked_set.now }
+        requires well_formed { IsWellFormed checked_set.now }
+        requires starts { Starts checked_set.now start inputs.items }
+        ensures { IfOk result (λ r. r ≡ begun checked_set.now start inputs.items answers.items cuts.items) }
+    {
+        let set = checked_set.copy()?;
+        let world = World::new(alloc, &set.table, answers)?;
+        let boxes = Boxes::bound_to(alloc, inputs_of_trace(&set, start), &inputs)?;
+        let cursor = Cursor {
+            trace: start,
+            at: 0,
+            guards: 0,
+            boxes,
+            world,
+            state: RecState::Going,
+            left: Vec::new(alloc),
+        };
+        Ok(RecRun {
+            alloc,
+            set,
+            cuts,
+            cursor,
+        })
+    }
+
     /// Makes one recorded operation; a run that has ended stays.
     pub fn step(&mut self) -> Result<(), AllocError>
         requires objects { length (world_of self.old.now).objects < 2 ^ 31 }

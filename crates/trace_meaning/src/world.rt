@@ -4,9 +4,10 @@ ghost use Rattle.std.specs.Prelude.{◌≡◌, ◌+◌, ◌-◌, ◌<◌, ◌≤
 ghost use Rattle.std.specs.Option.{option_copied};
 ghost use Rattle.trace_meaning.specs.World.{failed, events};
 ghost use Rattle.trace_meaning.specs.Objects.{write as written, with_new, with_object, place_within, with_part as part_set};
+ghost use Rattle.trace_meaning.specs.Recorded.{first_world};
 ghost use Rattle.trace_meaning.specs.Kept.{with_event, with_answered, with_world, IsOf, IsDone, allocated};
 
-use crate::objects::{is_frozen, place_of, size_of};
+use crate::objects::{is_frozen, place_of, prebuilt_objects, size_of};
 use crate::{Answer, CallEvent, Object, Store, Value};
 use std::alloc::{AllocError, Global};
 use std::marker::Model;
@@ -58,6 +59,31 @@ fn with_part(
 }
 
 impl World {
+    /// The prebuilt objects of a table, and nothing done.
+    pub fn new(
+        alloc: Global,
+        table: &Table,
+        answers: Vec<Answer>,
+    ) -> Result<World, AllocError>
+        ensures { IfOk result (λ w. w ≡ record { world = first_world table.now answers.items; prebuilts = length table.now.prebuilts }) }
+    {
+        let objects = prebuilt_objects(alloc, table.prebuilts.items())?;
+        Ok(World {
+            alloc,
+            prebuilts: table.prebuilts.items().len(),
+            store: Store {
+                objects: List::of(objects),
+            },
+            bytes: 0,
+            answers,
+            used: 0,
+            calls: Vec::new(alloc),
+            spent: Vec::new(alloc),
+            failures: 0,
+            overflow: false,
+        })
+    }
+
     pub fn store(&self) -> &Store
         ensures { result.now ≡ record { objects = self.now.world.objects } }
     {

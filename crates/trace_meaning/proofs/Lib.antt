@@ -5,3 +5,4 @@ pub mod Gathering
 pub mod Performed
 pub mod Settling
 pub mod KeptCalls
+pub mod Begun

@@ -19,11 +19,7 @@ pub struct Boxes {
 
 impl Boxes {
     /// These boxes, with these values.
-    pub fn bound_to(
-        alloc: Global,
-        boxes: &[BoxId],
-        values: &[Value],
-    ) -> Result<Boxes, AllocError>
+    pub fn bound_to(alloc: Global, boxes: &[BoxId], values: &[Value]) -> Result<Boxes, AllocError>
         ensures { IfOk result (λ r. r.values.entries ≡ bound_to boxes.now values.now) }
     {
         let mut bound = Boxes {

@@ -1,15 +1,15 @@
 //! Calls of host functions: what the host sees, whether its answer fits, and what the answer does.
 
-ghost use Rattle.std.specs.Prelude.{◌≡◌, ◌<◌, ◌^◌, ◌++◌, length, slice_get, filter, Some, IfOk, OnErr, OnOk};
+ghost use Rattle.std.specs.Prelude.{◌≡◌, ◌<◌, ◌≤◌, ◌^◌, ◌++◌, length, slice_get, filter, Some, IfOk, OnErr, OnOk};
 ghost use Rattle.std.specs.Option.{option_to_list};
 ghost use Rattle.trace_meaning.specs.Objects.{read_in as read_from};
 ghost use Rattle.trace_meaning.specs.Passing.{is_structure_of as structure_of};
 ghost use Rattle.trace_ops.specs.declared.piece.Spot.TheVariants as Spot;
 ghost use Rattle.std.specs.List.{flat_map, list_any, list_all};
 ghost use Rattle.trace_meaning.specs.Values.{references as refs_of, is_reference as is_ref};
-ghost use Rattle.trace_meaning.specs.Answers.{seen_of as seen_in, new_object, same_result as results_same, kind_given as given_kind, is_named as named, is_new as new_given, is_size as of_size, is_base as is_based, may_be_stored as storable, is_declared as declared_in, store_fits_field as fits_field, store_fits as fits_store, fits as fits_call, value_given as given_value};
+ghost use Rattle.trace_meaning.specs.Answers.{seen_of as seen_in, new_object, store_done as store_meant, same_result as results_same, kind_given as given_kind, is_named as named, is_new as new_given, is_size as of_size, is_base as is_based, may_be_stored as storable, is_declared as declared_in, store_fits_field as fits_field, store_fits as fits_store, fits as fits_call, value_given as given_value};
 ghost use Rattle.trace_meaning.specs.Performing.{call as called_by, call_row as called_row, called as called_with, answered_if, answered as answered_by};
-ghost use Rattle.trace_meaning.specs.Kept.{IsOf};
+ghost use Rattle.trace_meaning.specs.Kept.{with_world, IsOf};
 ghost use Rattle.trace_meaning.specs.Steps.{IsPerformed};
 
 use crate::folding::is_reference;
@@ -167,7 +167,9 @@ fn is_base(table: &Table, size: u32, field: u32, objects: &[Object], base: Optio
 fn may_be_stored(table: &Table, references: usize, kind: Kind, given: Give) -> bool
     ensures { result ≡ storable table.now references kind given }
 {
-    same_result(kind_given(given), Some(kind)) && !is_new(given) && is_named(table, references, given)
+    same_result(kind_given(given), Some(kind))
+        && !is_new(given)
+        && is_named(table, references, given)
 }
 
 fn is_declared(writes: &[u32], field: u32) -> bool
@@ -242,7 +244,7 @@ fn fits(
 
 // The value that is given; a new object has the next number.
 fn value_given(references: &[Value], objects: usize, given: Give) -> Option<Value>
-    requires { objects < 2 ^ 31 }
+    requires { objects ≤ 2 ^ 31 }
     ensures { result ≡ given_value references.now objects given }
 {
     match given {
@@ -268,6 +270,43 @@ fn fresh(alloc: Global, table: &Table, given: Give) -> Result<Option<Object>, Al
     }
 }
 
+// The event of a call with these references among its arguments.
+fn event_of(
+    alloc: Global,
+    table: &Table,
+    reads: &[u32],
+    function: u32,
+    values: &[Value],
+    references: &[Value],
+    gives: Option<Value>,
+    objects: &[Object],
+) -> Result<CallEvent, AllocError>
+    ensures { IfOk result (λ e. e ≡ record { function = function; args = values.now; seen = flat_map (seen_in table.now objects.now reads.now) references.now; gives = gives }) }
+{
+    let args = Vec::from_slice(alloc, values)?;
+    let seen = seen(alloc, table, objects, reads, references)?;
+    Ok(CallEvent {
+        function,
+        args: List::of(args),
+        seen: List::of(seen),
+        gives,
+    })
+}
+
+// One store of an answer.
+fn make_store(table: &Table, references: &[Value], store: AnswerStore, world: &mut World)
+    requires of { IsOf table.now world.old }
+    requires few { length world.old.world.objects ≤ 2 ^ 31 }
+    ensures { world.new ≡ with_world world.old (store_meant table.now references.now store world.old.world) }
+{
+    let Some(base) = references.get(store.arg as usize).copied() else {
+        return;
+    };
+    let Some(value) = value_given(references, world.objects().len(), store.value) else {
+        return;
+    };
+    let _ = world.write(table, Spot::Field(store.field), base, value);
+}
 /// A call takes the next answer.
 pub fn call(
     alloc: Global,

@@ -18,8 +18,8 @@ mod steps;
 mod value;
 mod world;
 
-pub use laws::ended_stays;
 pub use call::{Answer, AnswerStore, CallEvent, Give};
+pub use laws::ended_stays;
 pub use run::RecRun;
 pub use state::{RecFrame, RecState};
 pub use value::{Object, Store, Value};

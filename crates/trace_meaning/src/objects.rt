@@ -55,12 +55,7 @@ pub fn zeroed(alloc: Global, table: &Table, size: u32) -> Result<Object, AllocEr
 }
 
 /// A new array of so many items, each 0 or null.
-pub fn cleared(
-    alloc: Global,
-    table: &Table,
-    array: u32,
-    items: usize,
-) -> Result<Object, AllocError>
+pub fn cleared(alloc: Global, table: &Table, array: u32, items: usize) -> Result<Object, AllocError>
     ensures { IfOk result (λ o. o ≡ cleared_array table.now array items) }
 {
     let parts = Vec::from_elem(alloc, zero_item(table, array), items)?;
@@ -110,13 +105,7 @@ fn item_place(of: ShapeOf, array: u32, i: Word) -> Option<usize>
 {
     match of {
         ShapeOf::Size(_) => None,
-        ShapeOf::Array(a) => {
-            if a == array {
-                index_of(i)
-            } else {
-                None
-            }
-        }
+        ShapeOf::Array(a) => { if a == array { index_of(i) } else { None } }
     }
 }
 

@@ -79,7 +79,10 @@ fn get_field(table: &Table, descr: Descr, values: &[Value], world: &World) -> Do
         return Done::Bad;
     };
     match values {
-        [base] => done_with(world, read(table, Spot::Field(field), *base, world.objects())),
+        [base] => done_with(
+            world,
+            read(table, Spot::Field(field), *base, world.objects()),
+        ),
         _ => Done::Bad,
     }
 }
@@ -112,7 +115,10 @@ fn get_item(table: &Table, descr: Descr, values: &[Value], world: &World) -> Don
     };
     match values {
         [base, Value::Int(i)] => {
-            done_with(world, read(table, Spot::Item(array, *i), *base, world.objects()))
+            done_with(
+                world,
+                read(table, Spot::Item(array, *i), *base, world.objects()),
+            )
         }
         _ => Done::Bad,
     }

@@ -79,7 +79,12 @@ impl RecRun {
         ensures ok { OnOk result (self.new ≡ stepped self.old) }
         ensures err { OnErr result (self.new ≡ self.old) }
     {
-        step(self.alloc, &self.set, self.cuts.as_slice(), &mut self.cursor)?;
+        step(
+            self.alloc,
+            &self.set,
+            self.cuts.as_slice(),
+            &mut self.cursor,
+        )?;
         Ok(())
     }
 

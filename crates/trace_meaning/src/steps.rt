@@ -14,10 +14,10 @@ ghost use Rattle.trace_meaning.specs.Performing.{perform as performed, Gave, Don
 ghost use Rattle.trace_meaning.specs.Steps.{IsNumbered};
 ghost use Rattle.trace_meaning.specs.Standing.{IsStanding, turned, now_of, rec_of, settled};
 
-use crate::cursor::Cursor;
 use crate::boxes::Boxes;
+use crate::cursor::Cursor;
 use crate::frames::{frames_with, guard_in, slots_of};
-use crate::links::{inputs_of_trace, jump_target, ops_of_trace, op_at, seen_bridge};
+use crate::links::{inputs_of_trace, jump_target, op_at, ops_of_trace, seen_bridge};
 use crate::passing::passes;
 use crate::performing::{Done, perform};
 use crate::{RecState, Value};
@@ -59,12 +59,7 @@ fn go_on(set: &TraceSet, c: &mut Cursor)
 }
 
 // The result of a plain operation gets its value, where there is room for it.
-fn bind_result(
-    set: &TraceSet,
-    c: &mut Cursor,
-    result_box: Option<BoxId>,
-    value: Option<Value>,
-)
+fn bind_result(set: &TraceSet, c: &mut Cursor, result_box: Option<BoxId>, value: Option<Value>)
     requires standing { IsStanding set.now c.old }
     requires going { c.old.state ≡ RecState.Going }
     requires within { c.old.at < length (ops_at set.now c.old.trace) }
@@ -169,12 +164,7 @@ fn begin(
 }
 
 // The run jumps at the end of its trace.
-fn jump(
-    alloc: Global,
-    set: &TraceSet,
-    c: &mut Cursor,
-    values: &[Value],
-) -> Result<(), AllocError>
+fn jump(alloc: Global, set: &TraceSet, c: &mut Cursor, values: &[Value]) -> Result<(), AllocError>
     requires standing { IsStanding set.now c.old }
     requires going { c.old.state ≡ RecState.Going }
     ensures kept { IsStanding set.now c.new }
@@ -186,12 +176,7 @@ fn jump(
 }
 
 // The run ends at a failing guard, with its frames.
-fn exit(
-    alloc: Global,
-    set: &TraceSet,
-    c: &mut Cursor,
-    values: Vec<Value>,
-) -> Result<(), AllocError>
+fn exit(alloc: Global, set: &TraceSet, c: &mut Cursor, values: Vec<Value>) -> Result<(), AllocError>
     requires standing { IsStanding set.now c.old }
     requires going { c.old.state ≡ RecState.Going }
     ensures kept { IsStanding set.now c.new }
@@ -313,7 +298,13 @@ fn make_guard(
     ensures err { OnErr result (now_of set.now c.new ≡ now_of set.now c.old) }
 {
     let overflow = c.world.overflow();
-    match passes(op.code, op.args.items(), values, c.world.objects(), overflow) {
+    match passes(
+        op.code,
+        op.args.items(),
+        values,
+        c.world.objects(),
+        overflow,
+    ) {
         None => {
             go_wrong(set, c);
             Ok(())

@@ -40,13 +40,7 @@ impl Model for World {
 }
 
 // The objects with another value at a part of one of them.
-fn with_part(
-    alloc: Global,
-    objects: Vec<Object>,
-    n: usize,
-    i: usize,
-    value: Value,
-) -> Vec<Object>
+fn with_part(alloc: Global, objects: Vec<Object>, n: usize, i: usize, value: Value) -> Vec<Object>
     requires { (o : Object) × (slice_get objects.items n ≡ Some o) × (i < length o.parts) }
     ensures { (o : Object) → slice_get objects.items n ≡ Some o → result.items ≡ slice_set objects.items n (part_set o i value) }
 {
@@ -60,11 +54,7 @@ fn with_part(
 
 impl World {
     /// The prebuilt objects of a table, and nothing done.
-    pub fn new(
-        alloc: Global,
-        table: &Table,
-        answers: Vec<Answer>,
-    ) -> Result<World, AllocError>
+    pub fn new(alloc: Global, table: &Table, answers: Vec<Answer>) -> Result<World, AllocError>
         ensures { IfOk result (λ w. w ≡ record { world = first_world table.now answers.items; prebuilts = length table.now.prebuilts }) }
     {
         let objects = prebuilt_objects(alloc, table.prebuilts.items())?;
@@ -185,8 +175,10 @@ impl World {
         requires { (o : Object) × (slice_get self.old.world.objects n ≡ Some o) × (i < length o.parts) }
         ensures { (o : Object) → slice_get self.old.world.objects n ≡ Some o → self.new ≡ with_world self.old (with_object n self.old.world (part_set o i value)) }
     {
-        let objects =
-            std::mem::replace(&mut self.store.objects, List::of(Vec::new(self.alloc))).into_items();
+        let objects = std::mem::replace(
+            &mut self.store.objects,
+            List::of(Vec::new(self.alloc)),
+        ).into_items();
         self.store.objects = List::of(with_part(self.alloc, objects, n, i, value));
     }
 

@@ -9,5 +9,5 @@ pub returns-clause-ok : goal.returns-clause-ok
 returns-clause-ok c =
     let r = c.self.inside in
     ap (λ (n : RecordedNow). (let x : Run = record { set = r.set; cuts = r.cuts.items; now = n } in x))
-      (c.in_ok-step.ensures.ok ∙ ap (λ (cuts : Cuts). next (recorded r.set cuts) (now_of r.set r.cursor)) c.as_slice.ensures.value)
+    (c.in_ok-step.ensures.ok ∙ ap (λ (cuts : Cuts). next (recorded r.set cuts) (now_of r.set r.cursor)) c.as_slice.ensures.value)
     ∙ ap stepped c.self.view_is

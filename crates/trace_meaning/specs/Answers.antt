@@ -101,6 +101,15 @@ value_given refs next (give.Arg k) = slice_get refs k
 value_given refs next (give.Prebuilt k) = Some (v.Obj k)
 value_given refs next (give.New k) = Some (v.Obj next)
 
+-- the value that is stored; no new object is
+abbrev pub value_stored : List Value → Give → Option Value
+value_stored refs give.Nothing = None
+value_stored refs (give.Int z) = Some (v.Int z)
+value_stored refs give.Null = Some v.Null
+value_stored refs (give.Arg k) = slice_get refs k
+value_stored refs (give.Prebuilt k) = Some (v.Obj k)
+value_stored refs (give.New k) = None
+
 abbrev pub or_same : World → Option World → World
 or_same w None = w
 or_same w (Some u) = u
@@ -110,7 +119,7 @@ write_given t field w (Some base) (Some value) = write t (Field field) base valu
 write_given t field w _ _ = None
 
 abbrev pub store_done : Table → List Value → AnswerStore → World → World
-store_done t refs s w = or_same w (write_given t s.field w (slice_get refs s.arg) (value_given refs (length w.objects) s.value))
+store_done t refs s w = or_same w (write_given t s.field w (slice_get refs s.arg) (value_stored refs s.value))
 
 -- its stores, in order
 abbrev pub stores_done : Table → List Value → List AnswerStore → World → World

@@ -1,5 +1,5 @@
 -- What an operation does that is no guard, jump or finish.
-use Rattle.std.specs.Prelude.{ℕ, Bool, true, false, List, [], ◌∷◌, ◌++◌, Option, Some, None, length, slice_get, ℤ, pos, negsuc, ◌+ℤ◌, ◌-ℤ◌, ◌*ℤ◌}
+use Rattle.std.specs.Prelude.{ℕ, Bool, true, false, List, [], ◌∷◌, ◌++◌, Option, Some, None, length, drop, slice_get, ℤ, pos, negsuc, ◌+ℤ◌, ◌-ℤ◌, ◌*ℤ◌}
 use Rattle.std.specs.Option.{option_map}
 use Rattle.trace_ops.specs.declared.code.OpCode.{OpCode}
 use Rattle.trace_ops.specs.declared.code.OpCode.TheVariants as code
@@ -106,18 +106,30 @@ abbrev pub answered_if : Bool → Table → CallRow → ℕ → List Value → A
 answered_if true t row function vs a rest w = answered t row function vs a rest w
 answered_if false t row function vs a rest w = Misfitted (with_call t (event_of t row function vs None w) w)
 
--- a call takes the next answer
-abbrev pub called : Table → CallRow → ℕ → List Value → List Answer → World → Done
-called t row function vs [] w = Waited (with_call t (event_of t row function vs None w) w)
-called t row function vs (a ∷ rest) w = answered_if (fits t row (references vs) w.objects a) t row function vs a rest w
+-- a call takes the first answer that is left
+abbrev pub called_first : Table → CallRow → ℕ → List Value → Option Answer → List Answer → World → Done
+called_first t row function vs None rest w = Waited (with_call t (event_of t row function vs None w) w)
+called_first t row function vs (Some a) rest w = answered_if (fits t row (references vs) w.objects a) t row function vs a rest w
+
+abbrev pub called : Table → CallRow → ℕ → List Value → World → Done
+called t row function vs w = called_first t row function vs (slice_get w.answers 0) (drop 1 w.answers) w
 
 abbrev pub call_row : Table → Option CallRow → ℕ → List Value → World → Done
 call_row t None function vs w = Bad
-call_row t (Some row) function vs w = called t row function vs w.answers w
+call_row t (Some row) function vs w = called t row function vs w
+
+-- the function that is called
+abbrev pub function_in : List Arg → Option ℕ
+function_in (Func function ∷ rest) = Some function
+function_in _ = None
+
+abbrev pub call_function : Table → ℕ → Option ℕ → List Value → World → Done
+call_function t k None vs w = Bad
+call_function t k (Some function) vs w = call_row t (slice_get t.calls k) function vs w
 
 abbrev pub call : Table → Descr → List Arg → List Value → World → Done
-call t (descr.Call k) (Func function ∷ rest) vs w = call_row t (slice_get t.calls k) function vs w
-call t _ _ vs w = Bad
+call t (descr.Call k) args vs w = call_function t k (function_in args) vs w
+call t _ args vs w = Bad
 
 -- An operation, from the values of those arguments that have one
 

@@ -1,5 +1,11 @@
 -- What the calls of a runner make of a world, beside what the operations mean.
-use Rattle.std.specs.Prelude.{◌≡◌, Bool, true, false, None, ◌-◌, length}
+use Rattle.std.specs.Prelude.{◌≡◌, Bool, true, false, Option, Some, None, List, ◌-◌, length}
+use Rattle.trace_ops.specs.declared.table.Table.{Table}
+use Rattle.trace_ops.specs.declared.table.CallRow.{CallRow}
+use Rattle.trace_meaning.specs.declared.value.Value.{Value}
+use Rattle.trace_meaning.specs.declared.value.Object.{Object}
+use Rattle.trace_meaning.specs.declared.call.Answer.{Answer}
+use Rattle.trace_meaning.specs.Answers.{fits}
 use Rattle.trace_meaning.specs.Performing.{Done, Gave, Bad, Waited, Misfitted}
 use Rattle.trace_meaning.specs.Kept.{Kept, with_world}
 use Rattle.trace_meaning.specs.declared.performing.Done.{Done as Outcome}
@@ -21,3 +27,9 @@ write_shown false = outcome.Bad
 abbrev pub IsNumbered : Outcome → Kept → Type 0
 IsNumbered (outcome.Misfitted n) k = n ≡ length k.world.log - 1
 IsNumbered _ k = Unit {0}
+
+-- an answer, and whether it fits
+abbrev pub IsAnswer : Table → CallRow → List Value → List Object → Option Answer → Option (Bool × Answer) → Type 0
+IsAnswer t row refs objects None None = Unit {0}
+IsAnswer t row refs objects (Some a) (Some b) = (b.0 ≡ fits t row refs objects a) × (b.1 ≡ a)
+IsAnswer t row refs objects _ _ = ⊥

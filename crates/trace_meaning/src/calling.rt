@@ -1,16 +1,16 @@
 //! Calls of host functions: what the host sees, whether its answer fits, and what the answer does.
 
-ghost use Rattle.std.specs.Prelude.{◌≡◌, ◌<◌, ◌≤◌, ◌^◌, ◌++◌, length, slice_get, filter, Some, IfOk, OnErr, OnOk};
+ghost use Rattle.std.specs.Prelude.{◌≡◌, ◌<◌, ◌^◌, ◌++◌, length, drop, slice_get, filter, Some, None, IfOk, OnErr, OnOk};
 ghost use Rattle.std.specs.Option.{option_to_list};
 ghost use Rattle.trace_meaning.specs.Objects.{read_in as read_from};
 ghost use Rattle.trace_meaning.specs.Passing.{is_structure_of as structure_of};
 ghost use Rattle.trace_ops.specs.declared.piece.Spot.TheVariants as Spot;
 ghost use Rattle.std.specs.List.{flat_map, list_any, list_all};
 ghost use Rattle.trace_meaning.specs.Values.{references as refs_of, is_reference as is_ref};
-ghost use Rattle.trace_meaning.specs.Answers.{seen_of as seen_in, new_object, store_done as store_meant, same_result as results_same, kind_given as given_kind, is_named as named, is_new as new_given, is_size as of_size, is_base as is_based, may_be_stored as storable, is_declared as declared_in, store_fits_field as fits_field, store_fits as fits_store, fits as fits_call, value_given as given_value};
-ghost use Rattle.trace_meaning.specs.Performing.{call as called_by, call_row as called_row, called as called_with, answered_if, answered as answered_by};
-ghost use Rattle.trace_meaning.specs.Kept.{with_world, IsOf};
-ghost use Rattle.trace_meaning.specs.Steps.{IsPerformed};
+ghost use Rattle.trace_meaning.specs.Answers.{seen_of as seen_in, new_object, store_done as store_meant, stores_done as stores_meant, value_stored as stored_value, with_fresh, same_result as results_same, kind_given as given_kind, is_named as named, is_new as new_given, is_size as of_size, is_base as is_based, may_be_stored as storable, is_declared as declared_in, store_fits_field as fits_field, store_fits as fits_store, fits as fits_call, value_given as given_value};
+ghost use Rattle.trace_meaning.specs.Performing.{with_call, event_of as event_meant, call as called_by, call_row as called_row, called_first, function_in as function_meant, answered as answered_by};
+ghost use Rattle.trace_meaning.specs.Kept.{with_world, with_answered, allocated, IsOf};
+ghost use Rattle.trace_meaning.specs.Steps.{IsPerformed, IsAnswer};
 
 use crate::folding::is_reference;
 use crate::objects::{is_frozen, read, zeroed};
@@ -244,7 +244,7 @@ fn fits(
 
 // The value that is given; a new object has the next number.
 fn value_given(references: &[Value], objects: usize, given: Give) -> Option<Value>
-    requires { objects ≤ 2 ^ 31 }
+    requires { objects < 2 ^ 31 }
     ensures { result ≡ given_value references.now objects given }
 {
     match given {
@@ -293,20 +293,177 @@ fn event_of(
     })
 }
 
+// The value that is stored; no new object is.
+fn value_stored(references: &[Value], given: Give) -> Option<Value>
+    ensures { result ≡ stored_value references.now given }
+{
+    match given {
+        Give::Nothing => None,
+        Give::Int(word) => Some(Value::Int(word)),
+        Give::Null => Some(Value::Null),
+        Give::Arg(k) => references.get(k as usize).copied(),
+        Give::Prebuilt(k) => Some(Value::Obj(k)),
+        Give::New(_) => None,
+    }
+}
+
 // One store of an answer.
 fn make_store(table: &Table, references: &[Value], store: AnswerStore, world: &mut World)
-    requires of { IsOf table.now world.old }
-    requires few { length world.old.world.objects ≤ 2 ^ 31 }
+    requires { IsOf table.now world.old }
     ensures { world.new ≡ with_world world.old (store_meant table.now references.now store world.old.world) }
 {
     let Some(base) = references.get(store.arg as usize).copied() else {
         return;
     };
-    let Some(value) = value_given(references, world.objects().len(), store.value) else {
+    let Some(value) = value_stored(references, store.value) else {
         return;
     };
     let _ = world.write(table, Spot::Field(store.field), base, value);
 }
+
+// The stores of an answer, in order.
+fn make_stores(table: &Table, references: &[Value], stores: &[AnswerStore], world: &mut World)
+    requires { IsOf table.now world.old }
+    ensures { world.new ≡ with_world world.old (stores_meant table.now references.now stores.now world.old.world) }
+{
+    for store in stores {
+        make_store(table, references, *store, world);
+    }
+}
+
+// A call that takes an answer which gives this.
+fn log_given(
+    alloc: Global,
+    table: &Table,
+    given: Give,
+    event: CallEvent,
+    world: &mut World,
+) -> Result<(), AllocError>
+    requires some { 0 < length world.old.world.answers }
+    requires few { length world.old.world.objects < 2 ^ 31 }
+    ensures ok { OnOk result (world.new ≡ with_world world.old (with_fresh (new_object table.now given) (with_answered (allocated world.old.prebuilts world.old.world.objects) event world.old.world))) }
+    ensures err { OnErr result (world.new ≡ world.old) }
+{
+    match fresh(alloc, table, given)? {
+        None => world.log_answered(event),
+        Some(object) => world.log_answered_new(event, object),
+    }
+}
+
+// A call without an answer that fits stands last.
+fn stand(
+    alloc: Global,
+    table: &Table,
+    row: &CallRow,
+    function: u32,
+    values: &[Value],
+    references: &[Value],
+    world: &mut World,
+) -> Result<(), AllocError>
+    requires of { IsOf table.now world.old }
+    requires refs { references.now ≡ refs_of values.now }
+    ensures ok { OnOk result (world.new ≡ with_world world.old (with_call table.now (event_meant table.now row.now function values.now None world.old.world) world.old.world)) }
+    ensures err { OnErr result (world.new ≡ world.old) }
+{
+    let event = event_of(
+        alloc,
+        table,
+        row.reads.items(),
+        function,
+        values,
+        references,
+        None,
+        world.objects(),
+    )?;
+    world.log(event)?;
+    Ok(())
+}
+
+// A call takes an answer that fits.
+fn answered(
+    alloc: Global,
+    table: &Table,
+    row: &CallRow,
+    function: u32,
+    values: &[Value],
+    references: &[Value],
+    world: &mut World,
+    answer: &Answer,
+) -> Result<Done, AllocError>
+    requires of { IsOf table.now world.old }
+    requires few { length world.old.world.objects < 2 ^ 31 }
+    requires refs { references.now ≡ refs_of values.now }
+    requires some { 0 < length world.old.world.answers }
+    ensures ok { IfOk result (λ r. IsPerformed (answered_by table.now row.now function values.now answer.now (drop 1 world.old.world.answers) world.old.world) r world.old world.new) }
+    ensures err { OnErr result (world.new ≡ world.old) }
+{
+    let gives = value_given(references, world.objects().len(), answer.gives);
+    let event = event_of(
+        alloc,
+        table,
+        row.reads.items(),
+        function,
+        values,
+        references,
+        gives,
+        world.objects(),
+    )?;
+    log_given(alloc, table, answer.gives, event, world)?;
+    make_stores(table, references, answer.stores.items(), world);
+    Ok(Done::Gave(gives))
+}
+
+// A copy of the next answer, and whether it fits; none where there is no answer left.
+fn answer_if_fits(
+    table: &Table,
+    row: &CallRow,
+    references: &[Value],
+    world: &World,
+) -> Result<Option<(bool, Answer)>, AllocError>
+    ensures { IfOk result (λ r. IsAnswer table.now row.now references.now world.now.world.objects (slice_get world.now.world.answers 0) r) }
+{
+    match world.next_answer() {
+        None => Ok(None),
+        Some(answer) => {
+            let fit = fits(table, row, references, world.objects(), answer);
+            let copy = answer.copy()?;
+            Ok(Some((fit, copy)))
+        }
+    }
+}
+
+// A call, with its row.
+fn called(
+    alloc: Global,
+    table: &Table,
+    row: &CallRow,
+    function: u32,
+    values: &[Value],
+    world: &mut World,
+) -> Result<Done, AllocError>
+    requires of { IsOf table.now world.old }
+    requires few { length world.old.world.objects < 2 ^ 31 }
+    requires calls { length world.old.world.log < 2 ^ 31 }
+    ensures ok { IfOk result (λ r. IsPerformed (called_first table.now row.now function values.now (slice_get world.old.world.answers 0) (drop 1 world.old.world.answers) world.old.world) r world.old world.new) }
+    ensures err { OnErr result (world.new ≡ world.old) }
+{
+    let references = references(alloc, values)?;
+    match answer_if_fits(table, row, &references, world)? {
+        None => {
+            stand(alloc, table, row, function, values, &references, world)?;
+            Ok(Done::Waited)
+        }
+        Some((true, answer)) => {
+            answered(alloc, table, row, function, values, &references, world, &answer)
+        }
+        Some((false, _)) => {
+            let call = world.calls().len() as u32;
+            stand(alloc, table, row, function, values, &references, world)?;
+            Ok(Done::Misfitted(call))
+        }
+    }
+}
+
 /// A call takes the next answer.
 pub fn call(
     alloc: Global,
@@ -317,8 +474,28 @@ pub fn call(
 ) -> Result<Done, AllocError>
     requires of { IsOf table.now world.old }
     requires few { length world.old.world.objects < 2 ^ 31 }
+    requires calls { length world.old.world.log < 2 ^ 31 }
     ensures ok { IfOk result (λ r. IsPerformed (called_by table.now op.now.descr op.now.args values.now world.old.world) r world.old world.new) }
     ensures err { OnErr result (world.new ≡ world.old) }
 {
-    Err(AllocError)
+    let Descr::Call(k) = op.descr else {
+        return Ok(Done::Bad);
+    };
+    let Some(function) = function_in(op.args.items()) else {
+        return Ok(Done::Bad);
+    };
+    match table.calls.items().get(k as usize) {
+        None => Ok(Done::Bad),
+        Some(row) => called(alloc, table, row, function, values, world),
+    }
+}
+
+// The function that is called.
+fn function_in(args: &[Arg]) -> Option<u32>
+    ensures { result ≡ function_meant args.now }
+{
+    match args.first() {
+        Some(Arg::Func(function)) => Some(*function),
+        _ => None,
+    }
 }

@@ -218,6 +218,7 @@ pub fn perform(
 ) -> Result<Done, AllocError>
     requires of { IsOf table.now world.old }
     requires few { length world.old.world.objects < 2 ^ 31 }
+    requires calls { length world.old.world.log < 2 ^ 31 }
     ensures ok { IfOk result (λ r. IsPerformed (performed table.now op.now.code op.now.descr op.now.args values.now world.old.world) r world.old world.new) }
     ensures err { OnErr result (world.new ≡ world.old) }
 {

@@ -6,3 +6,4 @@ pub mod Performed
 pub mod Settling
 pub mod KeptCalls
 pub mod Begun
+pub mod Running

@@ -14,3 +14,4 @@ pub mod Kept
 pub mod Steps
 pub mod Standing
 pub mod Starting
+pub mod Laws

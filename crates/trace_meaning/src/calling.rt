@@ -454,7 +454,16 @@ fn called(
             Ok(Done::Waited)
         }
         Some((true, answer)) => {
-            answered(alloc, table, row, function, values, &references, world, &answer)
+            answered(
+                alloc,
+                table,
+                row,
+                function,
+                values,
+                &references,
+                world,
+                &answer,
+            )
         }
         Some((false, _)) => {
             let call = world.calls().len() as u32;

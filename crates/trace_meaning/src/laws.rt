@@ -1,10 +1,13 @@
 //! What holds of every run: laws over the definitions that the contracts cite.
 
-ghost use Rattle.std.specs.Prelude.{◌≡◌};
-ghost use Rattle.trace_meaning.specs.Recorded.{RecordedNow};
-ghost use Rattle.trace_meaning.specs.Observed.{state_of};
+ghost use Rattle.trace_meaning.specs.Laws.{EndedStays, RunsOn};
 
-/// x
+/// A run that has ended stays.
 pub fn ended_stays()
-    ensures { (x : RecordedNow) → x ≡ x }
+    ensures { EndedStays }
+{}
+
+/// A run after m and then n operations is the run after m + n.
+pub fn runs_on()
+    ensures { RunsOn }
 {}

@@ -19,7 +19,7 @@ mod value;
 mod world;
 
 pub use call::{Answer, AnswerStore, CallEvent, Give};
-pub use laws::ended_stays;
+pub use laws::{ended_stays, runs_on};
 pub use run::RecRun;
 pub use state::{RecFrame, RecState};
 pub use value::{Object, Store, Value};

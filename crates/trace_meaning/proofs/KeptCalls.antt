@@ -1,9 +1,9 @@
 -- Worlds with one call more.
-use Rattle.std.proofs.Common.{◌≡◌, ℕ, zero, suc, refl, add-one, ◌+◌, Bool, List, ◌∷◌, ◌++◌, [], ◌∙◌, ap, sym, drop, length, arith}
+use Rattle.std.proofs.Common.{◌≡◌, ℕ, zero, suc, refl, add-one, ◌+◌, Bool, List, ◌∷◌, ◌++◌, [], ◌∙◌, ap, drop, length}
 use Rattle.trace_meaning.specs.declared.value.Object.{Object}
 use Rattle.trace_meaning.specs.declared.call.CallEvent.{CallEvent}
 use Rattle.trace_meaning.specs.declared.call.Answer.{Answer}
-use Rattle.trace_meaning.specs.World.{World, Logged}
+use Rattle.trace_meaning.specs.World.{Logged}
 use Rattle.trace_meaning.specs.Objects.{with_new}
 use Rattle.trace_meaning.specs.Kept.{Kept, logged, with_world, with_event, with_answered, allocated}
 use Rattle.trace_meaning.proofs.Logs.{logged-push}

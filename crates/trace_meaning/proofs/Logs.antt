@@ -1,7 +1,7 @@
 -- Calls that are logged with the bytes before them.
-use Rattle.std.proofs.Common.{◌≡◌, ℕ, suc, ◌+◌, List, [], ◌∷◌, ◌++◌, length, refl, ap, arith}
+use Rattle.std.proofs.Common.{◌≡◌, ℕ, List, [], ◌∷◌, ◌++◌, length, refl, ap, arith}
 use Rattle.trace_meaning.specs.declared.call.CallEvent.{CallEvent}
-use Rattle.trace_meaning.specs.World.{Logged, events}
+use Rattle.trace_meaning.specs.World.{events}
 use Rattle.trace_meaning.specs.Kept.{logged}
 
 pub events-logged : (es : List CallEvent) (ns : List ℕ) → length es ≡ length ns → events (logged es ns) ≡ es

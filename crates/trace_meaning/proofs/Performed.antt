@@ -1,5 +1,5 @@
 -- What a plain operation leaves, as the definitions say it.
-use Rattle.std.proofs.Common.{◌≡◌, ℕ, ◌+◌, ◌-◌, Option, Some, None, List, length, drop, refl, ap, sym, ◌∙◌, subst}
+use Rattle.std.proofs.Common.{◌≡◌, ℕ, ◌+◌, ◌-◌, Option, Some, None, length, drop, refl, ap, sym, ◌∙◌, subst}
 use Rattle.trace_ops.specs.declared.trace.BoxId.{BoxId}
 use Rattle.trace_ops.specs.declared.trace.TraceSet.{TraceSet}
 use Rattle.trace_meaning.specs.declared.value.Value.{Value}
@@ -9,10 +9,10 @@ use Rattle.trace_meaning.specs.declared.state.RecState.TheVariants as state
 use Rattle.trace_meaning.specs.declared.performing.Done.{Done as Outcome}
 use Rattle.trace_meaning.specs.declared.performing.Done.TheVariants as outcome
 use Rattle.trace_meaning.specs.World.{World}
-use Rattle.trace_meaning.specs.Kept.{Kept, with_world}
+use Rattle.trace_meaning.specs.Kept.{Kept}
 use Rattle.trace_meaning.specs.Legs.{Over, Wrong, Waits, Misfits}
 use Rattle.trace_meaning.specs.Performing.{Done, Gave, Bad, Waited, Misfitted}
-use Rattle.trace_meaning.specs.Recorded.{Rec, RecordedNow, ops_at, recorded_result, recorded_plain}
+use Rattle.trace_meaning.specs.Recorded.{Rec, ops_at, recorded_result, recorded_plain}
 use Rattle.trace_meaning.specs.Observed.{state_of}
 use Rattle.trace_meaning.specs.Steps.{IsPerformed, IsNumbered}
 use Rattle.trace_meaning.specs.Standing.{IsStanding, standing, rest_of, rec_of, turned, settled}

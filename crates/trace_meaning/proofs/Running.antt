@@ -1,5 +1,5 @@
 -- Runs over numbers of operations.
-use Rattle.std.proofs.Common.{◌≡◌, ℕ, zero, suc, ◌+◌, refl, sym, ap, ◌∙◌, arith}
+use Rattle.std.proofs.Common.{◌≡◌, ℕ, zero, suc, ◌+◌, refl, ap, ◌∙◌, arith}
 use Rattle.trace_meaning.specs.Legs.{Leave, Program, Now, Over, run, next}
 
 pub run-over : {P O S : Type 0} (a : Program P O S) (p : P) (l : Leave) (n : ℕ) → run a n (Over p l) ≡ Over p l

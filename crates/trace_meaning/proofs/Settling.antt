@@ -1,14 +1,13 @@
 -- Where an operation leads, from the place of it.
-use Rattle.std.proofs.Common.{◌≡◌, ℕ, zero, suc, ◌+◌, ◌≤◌, ◌<◌, Option, Some, None, List, [], ◌∷◌, length, drop, refl, ap, sym, ◌∙◌, slice_get, add-one}
+use Rattle.std.proofs.Common.{◌≡◌, ℕ, zero, suc, ◌+◌, Option, Some, None, List, [], ◌∷◌, drop, refl, ap, sym, ◌∙◌, slice_get, add-one}
 use Rattle.std.proofs.Math.Seq.{drop-nil}
 use Rattle.trace_ops.specs.declared.trace.BoxId.{BoxId}
 use Rattle.trace_ops.specs.declared.trace.Op.{Op}
 use Rattle.trace_ops.specs.declared.trace.TraceSet.{TraceSet}
-use Rattle.trace_meaning.specs.declared.value.Value.{Value}
 use Rattle.trace_meaning.specs.Cuts.{Cuts}
-use Rattle.trace_meaning.specs.Legs.{In, Over, Wrong, Program, settle, next}
+use Rattle.trace_meaning.specs.Legs.{In, Over, Wrong, settle, next}
 use Rattle.trace_meaning.specs.Performing.{Done, Gave, Bad, Waited, Misfitted}
-use Rattle.trace_meaning.specs.Recorded.{Rec, RecordedNow, ops_at, recorded, recorded_plain, recorded_step}
+use Rattle.trace_meaning.specs.Recorded.{Rec, recorded, recorded_plain, recorded_step}
 use Rattle.trace_meaning.specs.Standing.{turned}
 
 module _ (set : TraceSet) (cuts : Cuts) (p : ℕ) (rest : List Op) where

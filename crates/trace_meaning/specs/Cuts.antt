@@ -1,5 +1,5 @@
 -- Bridges of guards, and which failures see one.
-use Rattle.std.specs.Prelude.{ℕ, ◌≤◌, ◌==◌, Bool, true, false, ◌&&◌, if◌then◌else◌, List, [], ◌∷◌, Option, Some, None, slice_get, nat_le}
+use Rattle.std.specs.Prelude.{ℕ, ◌≤◌, ◌==◌, Bool, false, ◌&&◌, if◌then◌else◌, List, [], ◌∷◌, Option, Some, None, slice_get, nat_le}
 use Rattle.std.specs.List.{Contains}
 use Rattle.trace_ops.specs.declared.trace.Origin.{Origin}
 use Rattle.trace_ops.specs.declared.trace.Origin.TheVariants.{Loop, Bridge}

@@ -1,9 +1,8 @@
 -- A world as it is kept: with the number of its prebuilt objects, and with its bytes counted.
-use Rattle.std.specs.Prelude.{◌≡◌, ◌++◌, ℕ, ◌+◌, ◌*◌, ◌^◌, ◌≤◌, Bool, true, false, List, [], ◌∷◌, Option, Some, None, length, drop, sum_by, map}
+use Rattle.std.specs.Prelude.{◌≡◌, ◌++◌, ℕ, ◌*◌, ◌^◌, ◌≤◌, Bool, true, false, List, [], ◌∷◌, Option, Some, None, length, drop, sum_by}
 use Rattle.trace_ops.specs.declared.table.Table.{Table}
 use Rattle.trace_meaning.specs.declared.value.Object.{Object}
 use Rattle.trace_meaning.specs.declared.call.CallEvent.{CallEvent}
-use Rattle.trace_meaning.specs.declared.call.Answer.{Answer}
 use Rattle.trace_meaning.specs.World.{World, Logged, size_of}
 
 pub record Kept : Type 0 where

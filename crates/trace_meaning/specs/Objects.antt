@@ -1,8 +1,6 @@
 -- Objects: how they begin, where their parts lie, and what reads and writes of them do.
 use Rattle.std.specs.Prelude.{ℕ, ◌==◌, Bool, true, false, ◌&&◌, if◌then◌else◌, List, [], ◌∷◌, ◌++◌, Option, Some, None, length, slice_get, slice_set, option_and_then, map, replicate, ℤ, pos, negsuc, position, nat_lt}
 use Rattle.std.specs.Option.{option_map}
-use Rattle.trace_ops.specs.declared.trace.Kind.{Kind}
-use Rattle.trace_ops.specs.declared.trace.Kind.TheVariants as kind
 use Rattle.trace_ops.specs.declared.piece.Spot.{Spot}
 use Rattle.trace_ops.specs.declared.piece.Spot.TheVariants as spot
 use Rattle.trace_ops.specs.declared.table.Table.{Table}

@@ -1,6 +1,5 @@
 -- What shows of a run: its state, its objects, its calls and the bytes that it has allocated.
-use Rattle.std.specs.Prelude.{ℕ, ◌-◌, List, [], ◌∷◌, Option, Some, None, length, slice_get, map, take, drop, filter}
-use Rattle.std.specs.List.{flat_map}
+use Rattle.std.specs.Prelude.{ℕ, ◌-◌, List, [], ◌∷◌, Option, Some, None, length, slice_get, take, drop, filter}
 use Rattle.trace_ops.specs.declared.trace.Frame.{Frame}
 use Rattle.trace_ops.specs.declared.trace.Op.{Op}
 use Rattle.trace_ops.specs.declared.trace.TraceSet.{TraceSet}
@@ -11,9 +10,9 @@ use Rattle.trace_meaning.specs.declared.call.CallEvent.{CallEvent}
 use Rattle.trace_meaning.specs.declared.state.RecFrame.{RecFrame}
 use Rattle.trace_meaning.specs.declared.state.RecState.{RecState}
 use Rattle.trace_meaning.specs.declared.state.RecState.TheVariants as state
-use Rattle.trace_meaning.specs.World.{World, Logged, events, bytes_in}
-use Rattle.trace_meaning.specs.Legs.{Leave, Fails, Jumps, Finishes, Waits, Misfits, Wrong, Now, In, Over}
-use Rattle.trace_meaning.specs.Recorded.{Rec, RecordedNow, ops_at}
+use Rattle.trace_meaning.specs.World.{World, events, bytes_in}
+use Rattle.trace_meaning.specs.Legs.{Leave, Fails, Jumps, Finishes, Waits, Misfits, Wrong, In, Over}
+use Rattle.trace_meaning.specs.Recorded.{RecordedNow, ops_at}
 
 -- the frames of a guard, outermost first, each with as many of the values as it has slots
 abbrev pub frames_with : List Frame → List Value → List RecFrame

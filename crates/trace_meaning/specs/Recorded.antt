@@ -1,8 +1,7 @@
 -- What recorded traces do: one operation, and the run after at most n operations.
-use Rattle.std.specs.Prelude.{ℕ, ◌+◌, ◌-◌, Bool, true, false, List, [], ◌∷◌, Option, Some, None, length, slice_get, option_and_then, map}
-use Rattle.std.specs.Option.{option_map, unwrap_or}
+use Rattle.std.specs.Prelude.{ℕ, ◌+◌, ◌-◌, Bool, true, false, List, [], Option, Some, None, length, slice_get, option_and_then, map}
+use Rattle.std.specs.Option.{unwrap_or}
 use Rattle.std.specs.List.{flat_map}
-use Rattle.trace_ops.specs.declared.code.OpCode.{OpCode}
 use Rattle.trace_ops.specs.declared.facts.Part.{Part}
 use Rattle.trace_ops.specs.declared.facts.Part.TheVariants as part
 use Rattle.trace_ops.specs.declared.trace.BoxId.{BoxId}
@@ -25,7 +24,7 @@ use Rattle.trace_meaning.specs.World.{World}
 use Rattle.trace_meaning.specs.Boxes.{Boxes, value_in, bind, bound_to, arg_value, all_values}
 use Rattle.trace_meaning.specs.Performing.{Done, Gave, Bad, Waited, Misfitted, perform}
 use Rattle.trace_meaning.specs.Passing.{passes}
-use Rattle.trace_meaning.specs.Legs.{Leave, Fails, Jumps, Finishes, Waits, Misfits, Wrong, Turn, On, Off, Program, Now, begins, run}
+use Rattle.trace_meaning.specs.Legs.{Fails, Jumps, Finishes, Waits, Misfits, Wrong, Turn, On, Off, Program, Now, begins, run}
 use Rattle.trace_meaning.specs.Cuts.{Cuts, seen_bridge}
 
 -- inside a trace: the boxes that have values, the guards so far, passed ones too, and all that operations share

@@ -1,5 +1,5 @@
 -- Where a runner stands, as a run of the definitions.
-use Rattle.std.specs.Prelude.{◌≡◌, ℕ, ◌+◌, ◌≤◌, Option, Some, None, List, length, drop, slice_get}
+use Rattle.std.specs.Prelude.{◌≡◌, ℕ, ◌+◌, ◌≤◌, Option, List, length, drop}
 use Rattle.trace_ops.specs.declared.trace.BoxId.{BoxId}
 use Rattle.trace_ops.specs.declared.trace.Op.{Op}
 use Rattle.trace_ops.specs.declared.trace.TraceSet.{TraceSet}
@@ -9,10 +9,8 @@ use Rattle.trace_meaning.specs.declared.state.RecState.TheVariants as state
 use Rattle.trace_meaning.specs.declared.cursor.Cursor.{Cursor}
 use Rattle.trace_meaning.specs.declared.performing.Done.{Done as Outcome}
 use Rattle.trace_meaning.specs.declared.performing.Done.TheVariants as outcome
-use Rattle.trace_meaning.specs.World.{World}
-use Rattle.trace_meaning.specs.Boxes.{Boxes}
 use Rattle.trace_meaning.specs.Kept.{IsOf}
-use Rattle.trace_meaning.specs.Legs.{Fails, Finishes, Waits, Misfits, Wrong, Now, In, Over, Turn, On, Off, next}
+use Rattle.trace_meaning.specs.Legs.{Fails, Finishes, Waits, Misfits, Wrong, In, Over, Turn, On, Off, next}
 use Rattle.trace_meaning.specs.Cuts.{Cuts}
 use Rattle.trace_meaning.specs.Recorded.{Rec, RecordedNow, ops_at, recorded, recorded_result}
 use Rattle.trace_meaning.specs.Observed.{state_of}

@@ -1,5 +1,5 @@
 -- From where a run starts.
-use Rattle.std.specs.Prelude.{◌≡◌, ℕ, ◌<◌, Some, List, map, length, slice_get}
+use Rattle.std.specs.Prelude.{◌≡◌, ℕ, ◌<◌, List, map, length, slice_get}
 use Rattle.std.specs.List.{All}
 use Rattle.std.specs.Option.{IsSomeAnd}
 use Rattle.trace_ops.specs.declared.trace.BoxId.{BoxId}

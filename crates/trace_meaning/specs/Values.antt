@@ -1,5 +1,5 @@
 -- Values, and how they compare.
-use Rattle.std.specs.Prelude.{ℕ, ◌==◌, Bool, true, false, List, filter, pos}
+use Rattle.std.specs.Prelude.{◌==◌, Bool, true, false, List, filter, pos}
 use Rattle.trace_ops.specs.declared.trace.Kind.{Kind}
 use Rattle.trace_ops.specs.declared.trace.Kind.TheVariants as kind
 use Rattle.trace_meaning.specs.declared.value.Value.{Value}

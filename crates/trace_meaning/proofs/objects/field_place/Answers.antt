@@ -1,4 +1,4 @@
-use Rattle.std.proofs.Common.{◌≡◌, ℕ, List, ◌∙◌, ap, ◌==◌, sym}
+use Rattle.std.proofs.Common.{ℕ, List, ◌∙◌, ap, ◌==◌, sym}
 use Rattle.std.specs.Prelude.{position}
 use Rattle.trace_ops.specs.declared.table.ShapeOf.{ShapeOf}
 use Rattle.trace_meaning.specs.Objects.{field_place}

@@ -1,6 +1,5 @@
-use Rattle.std.proofs.Common.{◌≡◌, ◌∙◌, ap, sym, refl}
+use Rattle.std.proofs.Common.{◌∙◌, ap, refl}
 use Rattle.trace_meaning.specs.Boxes.{Boxes}
-use Rattle.trace_meaning.specs.Recorded.{Rec}
 use Rattle.trace_meaning.specs.Standing.{settled}
 use Rattle.trace_meaning.proofs.Performed.{prebuilts-performed, numbered-performed, settled-performed, standing-inside}
 use Rattle.trace_meaning.proofs.steps.make_plain.Goals as goal

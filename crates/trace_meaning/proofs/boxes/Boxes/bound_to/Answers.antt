@@ -1,4 +1,4 @@
-use Rattle.std.proofs.Common.{◌≡◌, ◌≤◌, length, min, arith}
+use Rattle.std.proofs.Common.{◌≤◌, length, min, arith}
 use Rattle.trace_meaning.proofs.Binding.{bound_all}
 use Rattle.trace_meaning.proofs.boxes.Boxes.bound_to.Goals as goal
 

@@ -1,4 +1,4 @@
-use Rattle.std.proofs.Common.{◌≡◌, ℕ, ap, ◌∙◌, refl}
+use Rattle.std.proofs.Common.{ap, refl}
 use Rattle.trace_meaning.specs.Kept.{Kept}
 use Rattle.trace_meaning.proofs.Begun.{standing-begun}
 use Rattle.trace_meaning.proofs.run.RecRun.new.Goals as goal

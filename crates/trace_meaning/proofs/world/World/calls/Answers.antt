@@ -1,4 +1,4 @@
-use Rattle.std.proofs.Common.{◌≡◌, ◌∙◌, ap, sym}
+use Rattle.std.proofs.Common.{◌∙◌, ap, sym}
 use Rattle.trace_meaning.specs.World.{events}
 use Rattle.trace_meaning.specs.Kept.{Kept}
 use Rattle.trace_meaning.proofs.Logs.{events-logged}

@@ -1,10 +1,25 @@
 //! What recorded traces do: stores of objects, calls and their answers, and the run of a trace set.
 #![tactic(auto)]
 
+mod boxes;
 mod call;
+mod calling;
+mod cursor;
+mod folding;
+mod frames;
+mod laws;
+mod links;
+mod objects;
+mod passing;
+mod performing;
+mod run;
 mod state;
+mod steps;
 mod value;
+mod world;
 
 pub use call::{Answer, AnswerStore, CallEvent, Give};
+pub use laws::{ended_stays, runs_on};
+pub use run::RecRun;
 pub use state::{RecFrame, RecState};
 pub use value::{Object, Store, Value};

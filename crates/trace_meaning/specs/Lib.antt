@@ -1,0 +1,17 @@
+pub mod Values
+pub mod World
+pub mod Objects
+pub mod Folding
+pub mod Answers
+pub mod Performing
+pub mod Passing
+pub mod Boxes
+pub mod Legs
+pub mod Cuts
+pub mod Recorded
+pub mod Observed
+pub mod Kept
+pub mod Steps
+pub mod Standing
+pub mod Starting
+pub mod Laws

@@ -215,7 +215,7 @@ impl Draft {
     {
         let row = CallRow {
             name: *name,
-            args: args.copy(self.alloc)?,
+            args: args.copy()?,
             result: gives,
             reads: places(self.alloc, reads, &self.known.fields)?,
             writes: places(self.alloc, writes, &self.known.fields)?,

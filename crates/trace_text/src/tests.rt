@@ -29,7 +29,7 @@ const GOOD: [(&[u8], &str); 16] = [
     (b"%loop L\n[i0, r1]\nlabel(i0,p1)\n", "1 at 30"),
     (b"%loop L\n[i0]\nlabel(i0, descr=any)\nfinish()", "1 at 42"),
     (
-        b"%loop L\n\n# x\n[i0]\ndebug_merge_point(0, ')(', f0)\nlabel(i0)\n  %session\n%table",
+        b"%loop L\n\n# x\n[i0]\ndebug_merge_point(0, '()', f0)\nlabel(i0)\n  %session\n%table",
         "1 at 59",
     ),
     (b"%bridge B from T.9/007\n[i0,i0]\nfinish(i0)\n", "1 at 42"),

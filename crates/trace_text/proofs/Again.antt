@@ -47,10 +47,10 @@ unfolding plain_value box_of integer_of decimal_of decimal_behind
 no_round = refl
 
 -- a frame that ends with these slots
-abbrev with_frame : Line → List Value → Line
+abbrev pub with_frame : Line → List Value → Line
 with_frame l vs = record l { frames = l.frames ++ record { head = l.head; slots = vs } ∷ []; opened = []; place = frame_end l.head }
 
-abbrev pushed : Line → Value → Place → Line
+abbrev pub pushed : Line → Value → Place → Line
 pushed l v p = record l { opened = l.opened ++ v ∷ []; place = p }
 
 more_slots : (names : Names) (l : Line) (ws rest : List (List ℕ)) (vs : List Value) → MoreSlots names ws vs rest → run names (go l place.SlotBehind) ws ≡ run names (with_frame l (l.opened ++ vs)) rest
@@ -70,7 +70,7 @@ slots names l ws rest vs none (first_object {n} {ws = us} {vs = xs} h s) =
     rw h (more_slots names (pushed l (named_value (look n names.prebuilts)) place.SlotBehind) us rest xs s ∙ ap (λ (x : List Value). run names (with_frame l ((x ++ named_value (look n names.prebuilts) ∷ []) ++ xs)) rest) none)
 
 -- frames behind those so far
-abbrev with_frames : Line → List Slots → Line
+abbrev pub with_frames : Line → List Slots → Line
 with_frames l fs = record l { frames = l.frames ++ fs }
 
 -- the words lead to the end of a line with these parts
@@ -108,7 +108,7 @@ snapshot names l ws fs none is (snapshot_plain {ws = us} {vs} s) =
     record { line = with_frame l vs; runs = slots names (go l place.Closed) us [] vs none s; parts = rw is refl; is = rw is refl }
 
 -- a line whose arguments are closed
-abbrev with_args : Line → List Value → Option (List ℕ) → Line
+abbrev pub with_args : Line → List Value → Option (List ℕ) → Line
 with_args l vs d = record l { args = vs; opened = []; descr = d; place = place.Closed }
 
 more_args : (names : Names) (l : Line) (ws rest : List (List ℕ)) (vs : List Value) (d : Option (List ℕ)) → l.descr ≡ None → MoreArgs names ws vs d rest → run names (go l place.Behind) ws ≡ run names (with_args l (l.opened ++ vs) d) rest

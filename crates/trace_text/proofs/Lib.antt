@@ -4,3 +4,4 @@ pub mod Cuts
 pub mod Through
 pub mod Again
 pub mod Repeats
+pub mod Spelled

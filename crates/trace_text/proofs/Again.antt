@@ -16,7 +16,7 @@ use Rattle.trace_text.specs.declared.line.Place.{Place}
 use Rattle.trace_text.specs.declared.line.Place.TheVariants as place
 use Rattle.trace_text.specs.Names.{Names, look}
 use Rattle.trace_text.specs.Values.{plain_value, named_value, frame_head}
-use Rattle.trace_text.specs.Line.{run, start, go, done, is_done, op_at, from, frame_end}
+use Rattle.trace_text.specs.Line.{run, start, go, done, is_done, op_at, inputs_at, from, frame_end}
 use Rattle.trace_text.specs.Spelling.{MoreSlots, slots_end, slot_word, slot_object, SpellsSlots, no_slots, first_word, first_object, SpellsFrames, frames_end, one_frame, SpellsSnapshot, snapshot_framed, snapshot_plain, MoreArgs, args_end, args_descr, arg_word, arg_class, arg_object, SpellsArgs, no_args, descr_alone, begins_word, begins_class, begins_object, Parts, parts_of, SpellsLine, line_alone, line_made}
 
 -- a word that is a value is none of the words with a meaning of their own
@@ -156,3 +156,9 @@ unfolding from
 line_again names ws p s =
     let r = reads_line names ws p s in
     (r.line, ap (λ o. o >>= done) r.runs ∙ rw r.is refl, r.parts)
+
+pub inputs_again : (names : Names) (ws : List (List ℕ)) (fs : List Slots) → SpellsSnapshot names ws fs → (l : Line) × (inputs_at names ws ≡ Some l) × (l.frames ≡ fs)
+unfolding from
+inputs_again names ws fs s =
+    let r = snapshot names start ws fs refl refl s in
+    (r.line, ap (λ o. o >>= done) r.runs ∙ rw r.is refl, ap (λ (q : Parts). q.frames) r.parts)

@@ -4,4 +4,9 @@ pub mod Cuts
 pub mod Through
 pub mod Again
 pub mod Repeats
-pub mod Spelled
+pub mod SpelledSlots
+pub mod SpelledLine
+pub mod SpelledHeading
+pub mod FitNames
+pub mod FitLines
+pub mod FitDrafts

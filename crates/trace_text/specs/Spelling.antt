@@ -3,10 +3,14 @@ use Rattle.std.specs.Prelude.{◌≡◌, ℕ, true, Option, Some, None, List, []
 use Rattle.text_lines.specs.Words.{is_name}
 use Rattle.text_lines.specs.Numbers.{box_of}
 use Rattle.text_lines.specs.declared.number.Letter.{Letter}
+use Rattle.trace_ops.specs.declared.trace.Origin.{Origin}
+use Rattle.trace_ops.specs.declared.trace.Origin.TheVariants as origin
 use Rattle.trace_text.specs.declared.value.Value.{Value}
 use Rattle.trace_text.specs.declared.value.Head.TheVariants as head
 use Rattle.trace_text.specs.declared.line.Line.{Line}
 use Rattle.trace_text.specs.declared.line.Slots.{Slots}
+use Rattle.trace_text.specs.declared.heading.Heading.{Heading}
+use Rattle.trace_text.specs.Heading.{guard_name}
 use Rattle.trace_text.specs.Names.{Names, look}
 use Rattle.trace_text.specs.Values.{plain_value, named_value, frame_head}
 
@@ -63,3 +67,15 @@ parts_of l = record { made = l.made; name = l.name; args = l.args; descr = l.des
 pub data SpellsLine (names : Names) : List (List ℕ) → Parts → Type 0 where
   line_alone : {n : List ℕ} {ws rest : List (List ℕ)} {vs : List Value} {d : Option (List ℕ)} {fs : List Slots} → is_name n ≡ true → SpellsArgs names ws vs d rest → SpellsSnapshot names rest fs → SpellsLine names (n ∷ codes "(" ∷ ws) (record { made = None; name = n; args = vs; descr = d; frames = fs })
   line_made : {b n : List ℕ} {x : Letter × ℕ} {ws rest : List (List ℕ)} {vs : List Value} {d : Option (List ℕ)} {fs : List Slots} → is_name b ≡ true → box_of b ≡ Some x → is_name n ≡ true → SpellsArgs names ws vs d rest → SpellsSnapshot names rest fs → SpellsLine names (b ∷ codes "=" ∷ n ∷ codes "(" ∷ ws) (record { made = Some x; name = n; args = vs; descr = d; frames = fs })
+
+-- %loop NAME, or %bridge NAME from T/k
+abbrev pub SpellsOrigin : List (List ℕ) → Origin → Type 0
+SpellsOrigin ws origin.Loop = ws ≡ []
+SpellsOrigin ws (origin.Bridge parent guard) = (w : List ℕ) × (ws ≡ codes "from" ∷ w ∷ []) × (guard_name w ≡ Some (origin.Bridge parent guard))
+
+abbrev pub key_of : Origin → List ℕ
+key_of origin.Loop = codes "%loop"
+key_of (origin.Bridge parent guard) = codes "%bridge"
+
+abbrev pub SpellsHeading : List (List ℕ) → Heading → Type 0
+SpellsHeading ws h = (rest : List (List ℕ)) × (ws ≡ key_of h.origin ∷ h.name ∷ rest) × (is_name h.name ≡ true) × SpellsOrigin rest h.origin

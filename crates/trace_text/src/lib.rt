@@ -17,7 +17,7 @@ mod value;
 mod writing;
 
 pub use fault::{Refusal, TextFault};
-pub use laws::text_laws;
+pub use laws::{line_laws, opening_laws, text_laws};
 pub use set::read_set;
 pub use writing::write_set;
 

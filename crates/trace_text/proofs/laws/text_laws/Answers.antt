@@ -1,15 +1,23 @@
+use Rattle.std.proofs.Common.{◌≡◌, ℕ, List, Result, Ok, Err, sym, ap, ◌∙◌}
 use Rattle.text_lines.specs.Lines.{lines}
 use Rattle.text_lines.proofs.FirstBadLaws.{first_bad}
+use Rattle.trace_ops.specs.declared.trace.TraceSet.{TraceSet}
+use Rattle.trace_text.specs.declared.fault.TextFault.{TextFault}
 use Rattle.trace_text.specs.Draft.{nothing, read_line, lines_at}
-use Rattle.trace_text.proofs.Again.{line_again}
-use Rattle.trace_text.proofs.Spelled.{spelled_back}
+use Rattle.trace_text.specs.Sections.{set_at}
+use Rattle.trace_text.proofs.FitDrafts.{in_range}
 use Rattle.trace_text.proofs.laws.text_laws.Goals as goal
 
-pub returns-clause-read : goal.returns-clause-read
-returns-clause-read c = spelled_back
+set_in : TraceSet × ℕ → Result (TraceSet × ℕ) TextFault → TraceSet × ℕ
+set_in other (Ok x) = x
+set_in other (Err e) = other
 
-pub returns-clause-spelled : goal.returns-clause-spelled
-returns-clause-spelled c = line_again
+pub returns-clause-one_set : goal.returns-clause-one_set
+unfolding set_in
+returns-clause-one_set c = λ text a b is also. ap (set_in a) (sym is ∙ also)
+
+pub returns-clause-in_range : goal.returns-clause-in_range
+returns-clause-in_range c = in_range
 
 pub returns-clause-first_bad : goal.returns-clause-first_bad
 unfolding lines_at

@@ -10,3 +10,4 @@ pub mod SpelledHeading
 pub mod FitNames
 pub mod FitLines
 pub mod FitDrafts
+pub mod TableOf

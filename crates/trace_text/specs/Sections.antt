@@ -1,5 +1,5 @@
 -- The sections of a text, and the set that it stands for.
-use Rattle.std.specs.Prelude.{ℕ, ◌+◌, min, Bool, false, not, ◌&&◌, Result, Ok, Err, List, [], ◌∷◌, length, take, drop, codes, if◌then◌else◌}
+use Rattle.std.specs.Prelude.{◌≡◌, ◌⊎◌, ℕ, ◌+◌, min, Bool, false, not, ◌&&◌, Result, Ok, Err, List, [], ◌∷◌, length, take, drop, codes, if◌then◌else◌}
 use Rattle.std.specs.Str.{bytes_eq}
 use Rattle.std.specs.List.{position_or_len}
 use Rattle.text_lines.specs.Words.{words, is_plain}
@@ -79,3 +79,7 @@ set_of end text = set_opened end (1 + lines_before (stops until.Said) text) (bac
 -- the set, and the place of the session's line; the lines behind that are not read
 unfoldable pub set_at : List ℕ → Result (TraceSet × ℕ) TextFault
 set_at text = ok_then (set_of (1 + lines_before (stops until.Session) text) (front until.Session text)) (λ set. Ok (set, place_of (stops until.Session) text))
+
+-- there is no table, or lines of the text stand for it
+abbrev pub IsTableOfText : Table → Type 0
+IsTableOfText t = (t ≡ nothing) ⊎ ((first : ℕ) × (part : List ℕ) × (table_at first part ≡ Ok t))

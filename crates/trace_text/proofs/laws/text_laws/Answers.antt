@@ -6,6 +6,7 @@ use Rattle.trace_text.specs.declared.fault.TextFault.{TextFault}
 use Rattle.trace_text.specs.Draft.{nothing, read_line, lines_at}
 use Rattle.trace_text.specs.Sections.{set_at}
 use Rattle.trace_text.proofs.FitDrafts.{in_range}
+use Rattle.trace_text.proofs.TableOf.{table_of_text}
 use Rattle.trace_text.proofs.laws.text_laws.Goals as goal
 
 set_in : TraceSet × ℕ → Result (TraceSet × ℕ) TextFault → TraceSet × ℕ
@@ -15,6 +16,9 @@ set_in other (Err e) = other
 pub returns-clause-one_set : goal.returns-clause-one_set
 unfolding set_in
 returns-clause-one_set c = λ text a b is also. ap (set_in a) (sym is ∙ also)
+
+pub returns-clause-table : goal.returns-clause-table
+returns-clause-table c = table_of_text
 
 pub returns-clause-in_range : goal.returns-clause-in_range
 returns-clause-in_range c = in_range

@@ -1,5 +1,5 @@
 -- What reading makes of lines is in range.
-use Rattle.std.proofs.Common.{◌≡◌, ℕ, suc, ◌+◌, ◌<◌, ◌≤◌, Bool, true, false, cond, ltb, leb, List, [], ◌∷◌, ◌++◌, length, map, drop, Option, Some, None, Result, Ok, Err, refl, sym, ap, subst, ◌∙◌, arith, length-append}
+use Rattle.std.proofs.Common.{◌≡◌, ℕ, suc, ◌+◌, ◌<◌, ◌≤◌, Bool, true, false, cond, List, [], ◌∷◌, ◌++◌, length, map, drop, Option, Some, None, Result, Ok, Err, refl, ap, subst, ◌∙◌, arith, length-append}
 use Rattle.std.specs.Prelude.{not, ◌||◌, codes, nat_lt, nat_le, is_some}
 use Rattle.std.specs.Str.{bytes_eq}
 use Rattle.std.specs.List.{All, list_any}
@@ -263,12 +263,12 @@ line_good t n line d h =
     let told : Result Draft TextFault = cond (is_skipped (words line)) (Ok d) said in
     elim (is_plain line) as (λ b. Good t (cond b told (Err (fault.Syntax n)))) [
       | true ↦ elim (is_skipped (words line)) as (λ b. Good t (cond b (Ok d) said)) [
-          | true ↦ h
-          | false ↦ elim (is_section (words line)) as (λ b. Good t (cond b (read_heading n d (heading_at (words line))) (read_in (names_of t) n d.phase d (words line)))) [
-              | true ↦ heading_good t n d (heading_at (words line)) h
-              | false ↦ in_good t n d.phase d (words line) h
-            ]
+        | true ↦ h
+        | false ↦ elim (is_section (words line)) as (λ b. Good t (cond b (read_heading n d (heading_at (words line))) (read_in (names_of t) n d.phase d (words line)))) [
+          | true ↦ heading_good t n d (heading_at (words line)) h
+          | false ↦ in_good t n d.phase d (words line) h
         ]
+      ]
       | false ↦ tt
     ]
 

@@ -1,5 +1,5 @@
 -- The values and the operations of lines that are read name rows of the table.
-use Rattle.std.proofs.Common.{◌≡◌, ℕ, ℤ, Bool, true, false, cond, List, [], ◌∷◌, map, Option, Some, None, refl, sym, ap, subst, ◌∙◌}
+use Rattle.std.proofs.Common.{◌≡◌, ℕ, ℤ, Bool, true, false, cond, List, [], ◌∷◌, map, Option, Some, None, refl, sym, ap, subst}
 use Rattle.std.specs.Prelude.{codes, unwrap_or}
 use Rattle.std.specs.List.{All, AllByRecursion}
 use Rattle.std.specs.Str.{bytes_eq}
@@ -26,7 +26,7 @@ use Rattle.trace_text.specs.declared.line.Slots.{Slots}
 use Rattle.trace_text.specs.Names.{names_of, look}
 use Rattle.trace_text.specs.Values.{plain_value, named_value, box_or}
 use Rattle.trace_text.specs.Line.{op_at}
-use Rattle.trace_text.specs.Meaning.{arg_of, frame_of, framed, op_of, descr_of, descr_for, descr_found}
+use Rattle.trace_text.specs.Meaning.{arg_of, frame_of, framed, op_of, descr_of, descr_for}
 use Rattle.trace_text.specs.Spelling.{MoreSlots, slots_end, slot_word, slot_object, SpellsSlots, no_slots, first_word, first_object, SpellsFrames, frames_end, one_frame, SpellsSnapshot, snapshot_framed, snapshot_plain, MoreArgs, args_end, args_descr, arg_word, arg_class, arg_object, SpellsArgs, no_args, descr_alone, begins_word, begins_class, begins_object, Parts, parts_of, SpellsLine, line_alone, line_made}
 use Rattle.trace_text.proofs.FitNames.{look_fits, classes_fit, objects_fit, descrs_fit, NamesSlot}
 use Rattle.trace_text.proofs.SpelledLine.{spelled_back}

@@ -1,26 +1,22 @@
 -- What is read is spelled so: arguments and whole lines.
-use Rattle.std.proofs.Common.{◌≡◌, ℕ, zero, suc, ◌+◌, ◌≤◌, ◌-◌, ◌^◌, take, drop, Bool, true, false, cond, List, [], ◌∷◌, ◌++◌, length, Option, Some, None, refl, sym, ap, subst, ◌∙◌, inl, inr, ◌⊎◌, append_assoc, arith}
+use Rattle.std.proofs.Common.{◌≡◌, ℕ, zero, suc, ◌≤◌, Bool, true, false, cond, List, [], ◌∷◌, ◌++◌, length, Option, Some, None, refl, sym, ap, subst, ◌∙◌, inl, inr, append_assoc, arith}
 use Rattle.std.proofs.lemmas.List.{append-nil}
-use Rattle.std.specs.Prelude.{codes, position, nat_eq}
+use Rattle.std.specs.Prelude.{codes}
 use Rattle.std.specs.Str.{bytes_eq}
-use Rattle.std.proofs.lemmas.Slice.Eq.{bytes_eq-Decides}
 use Rattle.text_lines.specs.Words.{is_name}
 use Rattle.text_lines.specs.Reading.{◌>>=◌}
 use Rattle.text_lines.specs.declared.number.Letter.{Letter}
-use Rattle.text_lines.specs.Numbers.{box_of, decimal_of}
-use Rattle.trace_ops.specs.declared.trace.Arg.{Arg}
+use Rattle.text_lines.specs.Numbers.{box_of}
 use Rattle.trace_text.specs.declared.value.Value.{Value}
-use Rattle.trace_text.specs.declared.value.Head.{Head}
 use Rattle.trace_text.specs.declared.value.Head.TheVariants as head
 use Rattle.trace_text.specs.declared.line.Line.{Line}
 use Rattle.trace_text.specs.declared.line.Slots.{Slots}
-use Rattle.trace_text.specs.declared.line.Place.{Place}
 use Rattle.trace_text.specs.declared.line.Place.TheVariants as place
 use Rattle.trace_text.specs.Names.{Names, look}
-use Rattle.trace_text.specs.Values.{plain_value, named_value, frame_head, name_and_pc}
-use Rattle.trace_text.specs.Line.{run, start, go, done, is_done, op_at, inputs_at, from, frame_end, with_made}
-use Rattle.trace_text.specs.Spelling.{MoreSlots, slots_end, slot_word, slot_object, SpellsSlots, no_slots, first_word, first_object, SpellsFrames, frames_end, one_frame, SpellsSnapshot, snapshot_framed, snapshot_plain, MoreArgs, args_end, args_descr, arg_word, arg_class, arg_object, SpellsArgs, no_args, descr_alone, begins_word, begins_class, begins_object, Parts, parts_of, SpellsLine, line_alone, line_made}
-use Rattle.trace_text.proofs.Again.{with_frame, pushed, with_frames, with_args}
+use Rattle.trace_text.specs.Values.{plain_value, named_value}
+use Rattle.trace_text.specs.Line.{run, start, go, done, is_done, op_at, inputs_at, from, with_made}
+use Rattle.trace_text.specs.Spelling.{SpellsSnapshot, MoreArgs, args_end, args_descr, arg_word, arg_class, arg_object, SpellsArgs, no_args, descr_alone, begins_word, begins_class, begins_object, Parts, parts_of, SpellsLine, line_alone, line_made}
+use Rattle.trace_text.proofs.Again.{pushed, with_args}
 use Rattle.trace_text.proofs.SpelledSlots.{if_some, if_or, if_option, from_value, same_word, stuck, object_back, class_back, snapshot_back, ends_in, object, class, Named}
 
 -- ---- arguments
@@ -74,20 +70,20 @@ arg_object_back : (names : Names) (l m : Line) (ws : List (List ℕ)) (o : Named
 arg_object_back names l m ws o r =
     let v : Value = named_value (look o.name names.prebuilts) in
     let made : MoreArgsBack names l m (codes "," ∷ codes "ConstPtr" ∷ codes "(" ∷ o.name ∷ codes ")" ∷ o.rest) =
-        record { args = v ∷ r.args; descr = r.descr; rest = r.rest; spelled = arg_object o.is r.spelled; runs = ap (λ x. run names (with_args l x r.descr) r.rest) (sym (append_assoc l.opened (v ∷ []) r.args)) ∙ r.runs } in
+    record { args = v ∷ r.args; descr = r.descr; rest = r.rest; spelled = arg_object o.is r.spelled; runs = ap (λ x. run names (with_args l x r.descr) r.rest) (sym (append_assoc l.opened (v ∷ []) r.args)) ∙ r.runs } in
     subst (λ (x : List (List ℕ)). MoreArgsBack names l m (codes "," ∷ codes "ConstPtr" ∷ x)) (sym o.words) made
 
 arg_class_back : (names : Names) (l m : Line) (ws : List (List ℕ)) (o : Named names m ws (class names l)) → MoreArgsBack names (class names l o.name) m o.rest → MoreArgsBack names l m (codes "," ∷ codes "ConstClass" ∷ ws)
 arg_class_back names l m ws o r =
     let v : Value = named_value (look o.name names.classes) in
     let made : MoreArgsBack names l m (codes "," ∷ codes "ConstClass" ∷ codes "(" ∷ o.name ∷ codes ")" ∷ o.rest) =
-        record { args = v ∷ r.args; descr = r.descr; rest = r.rest; spelled = arg_class o.is r.spelled; runs = ap (λ x. run names (with_args l x r.descr) r.rest) (sym (append_assoc l.opened (v ∷ []) r.args)) ∙ r.runs } in
+    record { args = v ∷ r.args; descr = r.descr; rest = r.rest; spelled = arg_class o.is r.spelled; runs = ap (λ x. run names (with_args l x r.descr) r.rest) (sym (append_assoc l.opened (v ∷ []) r.args)) ∙ r.runs } in
     subst (λ (x : List (List ℕ)). MoreArgsBack names l m (codes "," ∷ codes "ConstClass" ∷ x)) (sym o.words) made
 
 arg_descr_back : (names : Names) (l m : Line) (ws : List (List ℕ)) → DescrBack names l m ws → MoreArgsBack names l m (codes "," ∷ codes "descr" ∷ ws)
 arg_descr_back names l m ws d =
     let made : MoreArgsBack names l m (codes "," ∷ codes "descr" ∷ codes "=" ∷ d.name ∷ codes ")" ∷ d.rest) =
-        record { args = []; descr = Some d.name; rest = d.rest; spelled = args_descr d.is; runs = ap (λ x. run names (with_args l x (Some d.name)) d.rest) (append-nil l.opened) ∙ d.runs } in
+    record { args = []; descr = Some d.name; rest = d.rest; spelled = args_descr d.is; runs = ap (λ x. run names (with_args l x (Some d.name)) d.rest) (append-nil l.opened) ∙ d.runs } in
     subst (λ (x : List (List ℕ)). MoreArgsBack names l m (codes "," ∷ codes "descr" ∷ x)) (sym d.words) made
 
 next_arg_back : (names : Names) (l m : Line) (n : ℕ) (ws : List (List ℕ)) → FewerArgs names m n → length ws ≤ suc n → l.descr ≡ None → is_done m.place ≡ true → run names (go l place.Next) ws ≡ Some m → MoreArgsBack names l m (codes "," ∷ ws)
@@ -97,20 +93,20 @@ next_arg_back names l m n (w ∷ ws) ih le none ends h =
     elim (if_or names (bytes_eq w (codes "descr")) (go l place.Descr) m (cond (bytes_eq w (codes "ConstClass")) (Some (go l place.Class)) (cond (bytes_eq w (codes "ConstPtr")) (Some (go l place.Ptr)) (plain_value w >>= λ v. Some (pushed l v place.Behind)))) ws h) [
       | inl p ↦ subst (λ (x : List ℕ). MoreArgsBack names l m (codes "," ∷ x ∷ ws)) (sym (same_word w (codes "descr") p.0)) (arg_descr_back names l m ws (descr_back names l m ws ends p.1))
       | inr p ↦ elim (if_or names (bytes_eq w (codes "ConstClass")) (go l place.Class) m (cond (bytes_eq w (codes "ConstPtr")) (Some (go l place.Ptr)) (plain_value w >>= λ v. Some (pushed l v place.Behind))) ws p.1) [
-          | inl q ↦
+        | inl q ↦
             let o = class_back names l m ws ends q.1 in
             let r = arg_class_back names l m ws o (ih (class names l o.name) o.rest (omega (arith, le, ap length o.words)) none o.runs) in
             subst (λ (x : List ℕ). MoreArgsBack names l m (codes "," ∷ x ∷ ws)) (sym (same_word w (codes "ConstClass") q.0)) r
-          | inr q ↦ elim (if_or names (bytes_eq w (codes "ConstPtr")) (go l place.Ptr) m (plain_value w >>= λ v. Some (pushed l v place.Behind)) ws q.1) [
-              | inl u ↦
-                let o = object_back names l m ws ends u.1 in
-                let r = arg_object_back names l m ws o (ih (object names l place.Behind o.name) o.rest (omega (arith, le, ap length o.words)) none o.runs) in
-                subst (λ (x : List ℕ). MoreArgsBack names l m (codes "," ∷ x ∷ ws)) (sym (same_word w (codes "ConstPtr") u.0)) r
-              | inr u ↦
-                let v = from_value names (plain_value w) (λ v. pushed l v place.Behind) m ws u.1 in
-                arg_word_back names l m w v.0 ws v.1 (ih (pushed l v.0 place.Behind) ws (omega (arith, le)) none v.2)
-            ]
+        | inr q ↦ elim (if_or names (bytes_eq w (codes "ConstPtr")) (go l place.Ptr) m (plain_value w >>= λ v. Some (pushed l v place.Behind)) ws q.1) [
+          | inl u ↦
+              let o = object_back names l m ws ends u.1 in
+              let r = arg_object_back names l m ws o (ih (object names l place.Behind o.name) o.rest (omega (arith, le, ap length o.words)) none o.runs) in
+              subst (λ (x : List ℕ). MoreArgsBack names l m (codes "," ∷ x ∷ ws)) (sym (same_word w (codes "ConstPtr") u.0)) r
+          | inr u ↦
+              let v = from_value names (plain_value w) (λ v. pushed l v place.Behind) m ws u.1 in
+              arg_word_back names l m w v.0 ws v.1 (ih (pushed l v.0 place.Behind) ws (omega (arith, le)) none v.2)
         ]
+      ]
     ]
 
 args_end_back : (names : Names) (l m : Line) (x : List ℕ) (ws : List (List ℕ)) → l.descr ≡ None → bytes_eq x (codes ")") ≡ true → run names (with_args l l.opened l.descr) ws ≡ Some m → MoreArgsBack names l m (x ∷ ws)
@@ -125,11 +121,11 @@ more_args_back zero names m ends l (x ∷ ws) le none h = absurd (omega (arith, 
 more_args_back (suc n) names m ends l (x ∷ ws) le none h =
     elim (if_or names (bytes_eq x (codes ",")) (go l place.Next) m (cond (bytes_eq x (codes ")")) (Some (with_args l l.opened l.descr)) None) ws h) [
       | inl p ↦
-        let r = next_arg_back names l m n ws (more_args_back n names m ends) (omega (arith, le)) none ends p.1 in
-        subst (λ (y : List ℕ). MoreArgsBack names l m (y ∷ ws)) (sym (same_word x (codes ",") p.0)) r
+          let r = next_arg_back names l m n ws (more_args_back n names m ends) (omega (arith, le)) none ends p.1 in
+          subst (λ (y : List ℕ). MoreArgsBack names l m (y ∷ ws)) (sym (same_word x (codes ",") p.0)) r
       | inr p ↦
-        let q = if_some names (bytes_eq x (codes ")")) (with_args l l.opened l.descr) m ws p.1 in
-        args_end_back names l m x ws none q.0 q.1
+          let q = if_some names (bytes_eq x (codes ")")) (with_args l l.opened l.descr) m ws p.1 in
+          args_end_back names l m x ws none q.0 q.1
     ]
 
 abbrev FirstArgsBack : Names → Line → Line → List (List ℕ) → Type 0
@@ -148,20 +144,20 @@ first_object_back : (names : Names) (l m : Line) (ws : List (List ℕ)) (o : Nam
 first_object_back names l m ws o none r =
     let v : Value = named_value (look o.name names.prebuilts) in
     let made : FirstArgsBack names l m (codes "ConstPtr" ∷ codes "(" ∷ o.name ∷ codes ")" ∷ o.rest) =
-        record { args = v ∷ r.args; descr = r.descr; rest = r.rest; spelled = begins_object o.is r.spelled; runs = ap (λ (x : List Value). run names (with_args l ((x ++ v ∷ []) ++ r.args) r.descr) r.rest) (sym none) ∙ r.runs } in
+    record { args = v ∷ r.args; descr = r.descr; rest = r.rest; spelled = begins_object o.is r.spelled; runs = ap (λ (x : List Value). run names (with_args l ((x ++ v ∷ []) ++ r.args) r.descr) r.rest) (sym none) ∙ r.runs } in
     subst (λ (x : List (List ℕ)). FirstArgsBack names l m (codes "ConstPtr" ∷ x)) (sym o.words) made
 
 first_class_back : (names : Names) (l m : Line) (ws : List (List ℕ)) (o : Named names m ws (class names l)) → l.opened ≡ [] → MoreArgsBack names (class names l o.name) m o.rest → FirstArgsBack names l m (codes "ConstClass" ∷ ws)
 first_class_back names l m ws o none r =
     let v : Value = named_value (look o.name names.classes) in
     let made : FirstArgsBack names l m (codes "ConstClass" ∷ codes "(" ∷ o.name ∷ codes ")" ∷ o.rest) =
-        record { args = v ∷ r.args; descr = r.descr; rest = r.rest; spelled = begins_class o.is r.spelled; runs = ap (λ (x : List Value). run names (with_args l ((x ++ v ∷ []) ++ r.args) r.descr) r.rest) (sym none) ∙ r.runs } in
+    record { args = v ∷ r.args; descr = r.descr; rest = r.rest; spelled = begins_class o.is r.spelled; runs = ap (λ (x : List Value). run names (with_args l ((x ++ v ∷ []) ++ r.args) r.descr) r.rest) (sym none) ∙ r.runs } in
     subst (λ (x : List (List ℕ)). FirstArgsBack names l m (codes "ConstClass" ∷ x)) (sym o.words) made
 
 first_descr_back : (names : Names) (l m : Line) (ws : List (List ℕ)) → l.opened ≡ [] → DescrBack names l m ws → FirstArgsBack names l m (codes "descr" ∷ ws)
 first_descr_back names l m ws none d =
     let made : FirstArgsBack names l m (codes "descr" ∷ codes "=" ∷ d.name ∷ codes ")" ∷ d.rest) =
-        record { args = []; descr = Some d.name; rest = d.rest; spelled = descr_alone d.is; runs = ap (λ (x : List Value). run names (with_args l x (Some d.name)) d.rest) (sym none) ∙ d.runs } in
+    record { args = []; descr = Some d.name; rest = d.rest; spelled = descr_alone d.is; runs = ap (λ (x : List Value). run names (with_args l x (Some d.name)) d.rest) (sym none) ∙ d.runs } in
     subst (λ (x : List (List ℕ)). FirstArgsBack names l m (codes "descr" ∷ x)) (sym d.words) made
 
 args_back : (names : Names) (l m : Line) (ws : List (List ℕ)) → l.opened ≡ [] → l.descr ≡ None → is_done m.place ≡ true → run names (go l place.Open) ws ≡ Some m → FirstArgsBack names l m ws
@@ -171,23 +167,23 @@ args_back names l m (w ∷ ws) none bare ends h =
     elim (if_or names (bytes_eq w (codes ")")) (with_args l l.opened l.descr) m (cond (bytes_eq w (codes "descr")) (Some (go l place.Descr)) (cond (bytes_eq w (codes "ConstClass")) (Some (go l place.Class)) (cond (bytes_eq w (codes "ConstPtr")) (Some (go l place.Ptr)) (plain_value w >>= λ v. Some (pushed l v place.Behind))))) ws h) [
       | inl p ↦ args_none_back names l m w ws none bare p.0 p.1
       | inr p ↦ elim (if_or names (bytes_eq w (codes "descr")) (go l place.Descr) m (cond (bytes_eq w (codes "ConstClass")) (Some (go l place.Class)) (cond (bytes_eq w (codes "ConstPtr")) (Some (go l place.Ptr)) (plain_value w >>= λ v. Some (pushed l v place.Behind)))) ws p.1) [
-          | inl q ↦ subst (λ (x : List ℕ). FirstArgsBack names l m (x ∷ ws)) (sym (same_word w (codes "descr") q.0)) (first_descr_back names l m ws none (descr_back names l m ws ends q.1))
-          | inr q ↦ elim (if_or names (bytes_eq w (codes "ConstClass")) (go l place.Class) m (cond (bytes_eq w (codes "ConstPtr")) (Some (go l place.Ptr)) (plain_value w >>= λ v. Some (pushed l v place.Behind))) ws q.1) [
-              | inl u ↦
-                let o = class_back names l m ws ends u.1 in
-                let r = first_class_back names l m ws o none (more_args_back (length o.rest) names m ends (class names l o.name) o.rest (omega arith) bare o.runs) in
-                subst (λ (x : List ℕ). FirstArgsBack names l m (x ∷ ws)) (sym (same_word w (codes "ConstClass") u.0)) r
-              | inr u ↦ elim (if_or names (bytes_eq w (codes "ConstPtr")) (go l place.Ptr) m (plain_value w >>= λ v. Some (pushed l v place.Behind)) ws u.1) [
-                  | inl t ↦
-                    let o = object_back names l m ws ends t.1 in
-                    let r = first_object_back names l m ws o none (more_args_back (length o.rest) names m ends (object names l place.Behind o.name) o.rest (omega arith) bare o.runs) in
-                    subst (λ (x : List ℕ). FirstArgsBack names l m (x ∷ ws)) (sym (same_word w (codes "ConstPtr") t.0)) r
-                  | inr t ↦
-                    let v = from_value names (plain_value w) (λ v. pushed l v place.Behind) m ws t.1 in
-                    first_arg_back names l m w v.0 ws none v.1 (more_args_back (length ws) names m ends (pushed l v.0 place.Behind) ws (omega arith) bare v.2)
-                ]
-            ]
+        | inl q ↦ subst (λ (x : List ℕ). FirstArgsBack names l m (x ∷ ws)) (sym (same_word w (codes "descr") q.0)) (first_descr_back names l m ws none (descr_back names l m ws ends q.1))
+        | inr q ↦ elim (if_or names (bytes_eq w (codes "ConstClass")) (go l place.Class) m (cond (bytes_eq w (codes "ConstPtr")) (Some (go l place.Ptr)) (plain_value w >>= λ v. Some (pushed l v place.Behind))) ws q.1) [
+          | inl u ↦
+              let o = class_back names l m ws ends u.1 in
+              let r = first_class_back names l m ws o none (more_args_back (length o.rest) names m ends (class names l o.name) o.rest (omega arith) bare o.runs) in
+              subst (λ (x : List ℕ). FirstArgsBack names l m (x ∷ ws)) (sym (same_word w (codes "ConstClass") u.0)) r
+          | inr u ↦ elim (if_or names (bytes_eq w (codes "ConstPtr")) (go l place.Ptr) m (plain_value w >>= λ v. Some (pushed l v place.Behind)) ws u.1) [
+            | inl t ↦
+                let o = object_back names l m ws ends t.1 in
+                let r = first_object_back names l m ws o none (more_args_back (length o.rest) names m ends (object names l place.Behind o.name) o.rest (omega arith) bare o.runs) in
+                subst (λ (x : List ℕ). FirstArgsBack names l m (x ∷ ws)) (sym (same_word w (codes "ConstPtr") t.0)) r
+            | inr t ↦
+                let v = from_value names (plain_value w) (λ v. pushed l v place.Behind) m ws t.1 in
+                first_arg_back names l m w v.0 ws none v.1 (more_args_back (length ws) names m ends (pushed l v.0 place.Behind) ws (omega arith) bare v.2)
+          ]
         ]
+      ]
     ]
 
 -- ---- a line
@@ -249,9 +245,9 @@ line_back names m (n ∷ b ∷ ws) ends h =
     elim (if_or names (bytes_eq b (codes "(")) (go (opened_by n) place.Open) m (cond (bytes_eq b (codes "=")) (with_made (opened_by n) (box_of n)) None) ws p.1) [
       | inl q ↦ alone_back names m n b ws p.0 q.0 (call_back names (opened_by n) m ws refl refl refl ends q.1)
       | inr q ↦
-        let u = if_option names (bytes_eq b (codes "=")) (with_made (opened_by n) (box_of n)) m ws q.1 in
-        let x = from_box names (box_of n) (opened_by n) m ws u.1 in
-        result_back names m n b x.0 ws ends p.0 x.1 u.0 x.2
+          let u = if_option names (bytes_eq b (codes "=")) (with_made (opened_by n) (box_of n)) m ws q.1 in
+          let x = from_box names (box_of n) (opened_by n) m ws u.1 in
+          result_back names m n b x.0 ws ends p.0 x.1 u.0 x.2
     ]
 
 done_of : (b : Bool) (l m : Line) → is_done l.place ≡ b → cond b (Some l) None ≡ Some m → (Some l ≡ Some m) × (is_done m.place ≡ true)

@@ -6,9 +6,7 @@ use Rattle.std.specs.Str.{bytes_eq}
 use Rattle.std.proofs.lemmas.Slice.Eq.{bytes_eq-Decides}
 use Rattle.text_lines.specs.Words.{is_name}
 use Rattle.text_lines.specs.Reading.{◌>>=◌}
-use Rattle.text_lines.specs.declared.number.Letter.{Letter}
-use Rattle.text_lines.specs.Numbers.{box_of, decimal_of}
-use Rattle.trace_ops.specs.declared.trace.Arg.{Arg}
+use Rattle.text_lines.specs.Numbers.{decimal_of}
 use Rattle.trace_text.specs.declared.value.Value.{Value}
 use Rattle.trace_text.specs.declared.value.Head.{Head}
 use Rattle.trace_text.specs.declared.value.Head.TheVariants as head
@@ -18,9 +16,9 @@ use Rattle.trace_text.specs.declared.line.Place.{Place}
 use Rattle.trace_text.specs.declared.line.Place.TheVariants as place
 use Rattle.trace_text.specs.Names.{Names, look}
 use Rattle.trace_text.specs.Values.{plain_value, named_value, frame_head, name_and_pc}
-use Rattle.trace_text.specs.Line.{run, start, go, done, is_done, op_at, from, frame_end, with_made}
-use Rattle.trace_text.specs.Spelling.{MoreSlots, slots_end, slot_word, slot_object, SpellsSlots, no_slots, first_word, first_object, SpellsFrames, frames_end, one_frame, SpellsSnapshot, snapshot_framed, snapshot_plain, MoreArgs, args_end, args_descr, arg_word, arg_class, arg_object, SpellsArgs, no_args, descr_alone, begins_word, begins_class, begins_object, Parts, parts_of, SpellsLine, line_alone, line_made}
-use Rattle.trace_text.proofs.Again.{with_frame, pushed, with_frames, with_args}
+use Rattle.trace_text.specs.Line.{run, go, is_done, frame_end}
+use Rattle.trace_text.specs.Spelling.{MoreSlots, slots_end, slot_word, slot_object, SpellsSlots, no_slots, first_word, first_object, SpellsFrames, frames_end, one_frame, SpellsSnapshot, snapshot_framed, snapshot_plain, Parts, parts_of}
+use Rattle.trace_text.proofs.Again.{with_frame, pushed, with_frames}
 
 -- ---- one step backwards
 
@@ -144,7 +142,7 @@ pub slot_named_back : (names : Names) (l m : Line) (ws : List (List ℕ)) (o : N
 slot_named_back names l m ws o r =
     let v : Value = named_value (look o.name names.prebuilts) in
     let made : MoreBack names l m (codes "," ∷ codes "ConstPtr" ∷ codes "(" ∷ o.name ∷ codes ")" ∷ o.rest) =
-        record { slots = v ∷ r.slots; rest = r.rest; spelled = slot_object o.is r.spelled; runs = ap (λ x. run names (with_frame l x) r.rest) (sym (append_assoc l.opened (v ∷ []) r.slots)) ∙ r.runs } in
+    record { slots = v ∷ r.slots; rest = r.rest; spelled = slot_object o.is r.spelled; runs = ap (λ x. run names (with_frame l x) r.rest) (sym (append_assoc l.opened (v ∷ []) r.slots)) ∙ r.runs } in
     subst (λ (x : List (List ℕ)). MoreBack names l m (codes "," ∷ codes "ConstPtr" ∷ x)) (sym o.words) made
 
 pub slot_next_back : (names : Names) (l m : Line) (n : ℕ) (ws : List (List ℕ)) → Shorter names m n → length ws ≤ suc n → is_done m.place ≡ true → run names (go l place.SlotNext) ws ≡ Some m → MoreBack names l m (codes "," ∷ ws)
@@ -153,13 +151,13 @@ slot_next_back names l m n [] ih le ends h = stuck (go l place.SlotNext) m refl 
 slot_next_back names l m n (w ∷ ws) ih le ends h =
     elim (if_or names (bytes_eq w (codes "ConstPtr")) (go l place.SlotPtr) m (plain_value w >>= λ v. Some (pushed l v place.SlotBehind)) ws h) [
       | inl p ↦
-        let o = slot_object_back names l m ws ends p.1 in
-        let small : length o.rest ≤ n = omega (arith, le, ap length o.words) in
-        let r = slot_named_back names l m ws o (ih (object names l place.SlotBehind o.name) o.rest small o.runs) in
-        subst (λ (x : List ℕ). MoreBack names l m (codes "," ∷ x ∷ ws)) (sym (same_word w (codes "ConstPtr") p.0)) r
+          let o = slot_object_back names l m ws ends p.1 in
+          let small : length o.rest ≤ n = omega (arith, le, ap length o.words) in
+          let r = slot_named_back names l m ws o (ih (object names l place.SlotBehind o.name) o.rest small o.runs) in
+          subst (λ (x : List ℕ). MoreBack names l m (codes "," ∷ x ∷ ws)) (sym (same_word w (codes "ConstPtr") p.0)) r
       | inr p ↦
-        let v = from_value names (plain_value w) (λ v. pushed l v place.SlotBehind) m ws p.1 in
-        slot_word_back names l m w v.0 ws v.1 (ih (pushed l v.0 place.SlotBehind) ws (omega (arith, le)) v.2)
+          let v = from_value names (plain_value w) (λ v. pushed l v place.SlotBehind) m ws p.1 in
+          slot_word_back names l m w v.0 ws v.1 (ih (pushed l v.0 place.SlotBehind) ws (omega (arith, le)) v.2)
     ]
 
 pub slots_end_back : (names : Names) (l m : Line) (x : List ℕ) (ws : List (List ℕ)) → bytes_eq x (codes "]") ≡ true → run names (with_frame l l.opened) ws ≡ Some m → MoreBack names l m (x ∷ ws)
@@ -174,11 +172,11 @@ more_slots_back zero names m ends l (x ∷ ws) le h = absurd (omega (arith, le))
 more_slots_back (suc n) names m ends l (x ∷ ws) le h =
     elim (if_or names (bytes_eq x (codes ",")) (go l place.SlotNext) m (cond (bytes_eq x (codes "]")) (Some (with_frame l l.opened)) None) ws h) [
       | inl p ↦
-        let r = slot_next_back names l m n ws (more_slots_back n names m ends) (omega (arith, le)) ends p.1 in
-        subst (λ (y : List ℕ). MoreBack names l m (y ∷ ws)) (sym (same_word x (codes ",") p.0)) r
+          let r = slot_next_back names l m n ws (more_slots_back n names m ends) (omega (arith, le)) ends p.1 in
+          subst (λ (y : List ℕ). MoreBack names l m (y ∷ ws)) (sym (same_word x (codes ",") p.0)) r
       | inr p ↦
-        let q = if_some names (bytes_eq x (codes "]")) (with_frame l l.opened) m ws p.1 in
-        slots_end_back names l m x ws q.0 q.1
+          let q = if_some names (bytes_eq x (codes "]")) (with_frame l l.opened) m ws p.1 in
+          slots_end_back names l m x ws q.0 q.1
     ]
 
 pub more_slots_shorter : (names : Names) (ws rest : List (List ℕ)) (vs : List Value) → MoreSlots names ws vs rest → suc (length rest) ≤ length ws
@@ -207,7 +205,7 @@ pub first_named_back : (names : Names) (l m : Line) (ws : List (List ℕ)) (o : 
 first_named_back names l m ws o none r =
     let v : Value = named_value (look o.name names.prebuilts) in
     let made : FirstBack names l m (codes "ConstPtr" ∷ codes "(" ∷ o.name ∷ codes ")" ∷ o.rest) =
-        record { slots = v ∷ r.slots; rest = r.rest; spelled = first_object o.is r.spelled; runs = ap (λ (x : List Value). run names (with_frame l ((x ++ v ∷ []) ++ r.slots)) r.rest) (sym none) ∙ r.runs } in
+    record { slots = v ∷ r.slots; rest = r.rest; spelled = first_object o.is r.spelled; runs = ap (λ (x : List Value). run names (with_frame l ((x ++ v ∷ []) ++ r.slots)) r.rest) (sym none) ∙ r.runs } in
     subst (λ (x : List (List ℕ)). FirstBack names l m (codes "ConstPtr" ∷ x)) (sym o.words) made
 
 pub slots_back : (names : Names) (l m : Line) (ws : List (List ℕ)) → l.opened ≡ [] → is_done m.place ≡ true → run names (go l place.SlotOpen) ws ≡ Some m → FirstBack names l m ws
@@ -217,14 +215,14 @@ slots_back names l m (w ∷ ws) none ends h =
     elim (if_or names (bytes_eq w (codes "]")) (with_frame l l.opened) m (cond (bytes_eq w (codes "ConstPtr")) (Some (go l place.SlotPtr)) (plain_value w >>= λ v. Some (pushed l v place.SlotBehind))) ws h) [
       | inl p ↦ slots_none_back names l m w ws none p.0 p.1
       | inr p ↦ elim (if_or names (bytes_eq w (codes "ConstPtr")) (go l place.SlotPtr) m (plain_value w >>= λ v. Some (pushed l v place.SlotBehind)) ws p.1) [
-          | inl q ↦
+        | inl q ↦
             let o = slot_object_back names l m ws ends q.1 in
             let r = first_named_back names l m ws o none (more_slots_back (length o.rest) names m ends (object names l place.SlotBehind o.name) o.rest (omega arith) o.runs) in
             subst (λ (x : List ℕ). FirstBack names l m (x ∷ ws)) (sym (same_word w (codes "ConstPtr") q.0)) r
-          | inr q ↦
+        | inr q ↦
             let v = from_value names (plain_value w) (λ v. pushed l v place.SlotBehind) m ws q.1 in
             first_word_back names l m w v.0 ws none v.1 (more_slots_back (length ws) names m ends (pushed l v.0 place.SlotBehind) ws (omega arith) v.2)
-        ]
+      ]
     ]
 
 -- ---- frames
@@ -321,7 +319,6 @@ snapshot_back names l m (w ∷ ws) none is ends h =
     elim (if_or names (bytes_eq w (codes "[")) (go l place.SlotOpen) m (frame_head w >>= λ x. Some (record l { head = x; place = place.FrameHead })) ws h) [
       | inl p ↦ plain_back names l m w ws is p.0 (slots_back names l m ws none ends p.1)
       | inr p ↦
-        let q = from_head names (frame_head w) (λ x. record l { head = x; place = place.FrameHead }) m ws p.1 in
-        of_frames names l m (w ∷ ws) (framed_back names l m w ws q.0 none ends q.1 q.2)
+          let q = from_head names (frame_head w) (λ x. record l { head = x; place = place.FrameHead }) m ws p.1 in
+          of_frames names l m (w ∷ ws) (framed_back names l m w ws q.0 none ends q.1 q.2)
     ]
-

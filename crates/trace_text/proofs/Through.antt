@@ -1,5 +1,5 @@
 -- What a part answers, through what is done with it.
-use Rattle.std.proofs.Common.{◌≡◌, ℕ, ◌≤◌, zero, suc, Bool, true, false, cond, eqb, List, [], ◌∷◌, length, take, Result, Ok, Err, refl, sym, ap, subst, ◌∙◌, arith}
+use Rattle.std.proofs.Common.{◌≡◌, ℕ, ◌≤◌, zero, suc, true, false, cond, eqb, List, [], ◌∷◌, length, take, Result, Ok, ap, subst, arith}
 use Rattle.text_lines.specs.Reading.{ok_then}
 use Rattle.text_lines.specs.Lines.{lines, in_front}
 use Rattle.trace_ops.specs.declared.table.Table.{Table}

@@ -1,10 +1,10 @@
 -- Traces as far as they are read, and what a line makes of them.
-use Rattle.std.specs.Prelude.{◌≡◌, ℕ, ◌+◌, ◌-◌, ◌^◌, min, Bool, true, false, ◌&&◌, ◌||◌, not, Option, Some, None, Result, Ok, Err, List, [], ◌∷◌, ◌++◌, map, length, codes, slice_index, nat_lt, nat_le, nat_eq, ◌==◌, if◌then◌else◌}
+use Rattle.std.specs.Prelude.{◌≡◌, ℕ, ◌+◌, ◌-◌, ◌^◌, min, Bool, true, false, ◌&&◌, not, Option, Some, None, Result, Ok, Err, List, [], ◌∷◌, ◌++◌, map, length, codes, slice_index, nat_lt, nat_le, ◌==◌, if◌then◌else◌}
 use Rattle.std.specs.Str.{bytes_eq}
 use Rattle.std.specs.List.{list_any}
 use Rattle.text_lines.specs.Words.{words, is_plain}
 use Rattle.text_lines.specs.Lines.{lines}
-use Rattle.text_lines.specs.Reading.{first_of, is_skipped, read_lines, ok_then}
+use Rattle.text_lines.specs.Reading.{first_of, is_skipped, read_lines}
 use Rattle.text_lines.specs.declared.number.Letter.{Letter}
 use Rattle.text_lines.specs.declared.number.Letter.TheVariants as letter
 use Rattle.trace_ops.specs.declared.code.OpCode.{OpCode}

@@ -1,5 +1,5 @@
 -- The headings of traces, and merge points.
-use Rattle.std.specs.Prelude.{◌≡◌, ℕ, zero, suc, ◌+◌, ◌-◌, ◌^◌, Bool, true, false, ◌&&◌, Option, Some, None, List, [], ◌∷◌, ◌==◌, codes, position, take, drop, length, nat_eq, if◌then◌else◌}
+use Rattle.std.specs.Prelude.{ℕ, ◌+◌, ◌-◌, ◌^◌, Bool, true, false, ◌&&◌, Option, Some, None, List, [], ◌∷◌, ◌==◌, codes, position, take, drop, if◌then◌else◌}
 use Rattle.std.specs.Str.{bytes_eq}
 use Rattle.text_lines.specs.Words.{is_name}
 use Rattle.text_lines.specs.Reading.{◌>>=◌, word_at, name_at, key_at, ended}

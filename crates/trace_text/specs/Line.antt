@@ -11,7 +11,6 @@ use Rattle.trace_text.specs.declared.value.Head.TheVariants as head
 use Rattle.trace_text.specs.declared.line.Place.{Place}
 use Rattle.trace_text.specs.declared.line.Place.TheVariants as place
 use Rattle.trace_text.specs.declared.line.Line.{Line}
-use Rattle.trace_text.specs.declared.line.Slots.{Slots}
 use Rattle.trace_text.specs.Names.{Names, look}
 use Rattle.trace_text.specs.Values.{plain_value, named_value, frame_head}
 

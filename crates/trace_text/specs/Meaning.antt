@@ -1,5 +1,5 @@
 -- What the line of an operation means, and what refuses it.
-use Rattle.std.specs.Prelude.{◌≡◌, ℕ, Bool, true, false, ◌||◌, ◌&&◌, not, Option, Some, None, List, [], ◌∷◌, ◌++◌, map, codes, is_some, unwrap_or, length, nat_lt, nat_le, nat_eq, if◌then◌else◌}
+use Rattle.std.specs.Prelude.{ℕ, Bool, true, false, ◌||◌, not, Option, Some, None, List, [], ◌∷◌, map, codes, is_some, unwrap_or, length, nat_lt, nat_le, nat_eq}
 use Rattle.std.specs.List.{list_any, starts_with, ends_with}
 use Rattle.std.specs.Str.{bytes_eq}
 use Rattle.text_lines.specs.Reading.{first_of}

@@ -1,4 +1,4 @@
-use Rattle.std.proofs.Common.{sym, ap, ◌∙◌, take, drop, length, arith}
+use Rattle.std.proofs.Common.{sym, ap, ◌∙◌, take, drop}
 use Rattle.std.proofs.lemmas.Bool.{eqb-true}
 use Rattle.trace_text.specs.Sections.{stops}
 use Rattle.trace_text.proofs.Cuts.{goes_on, at_line, at_end, front_whole, back_whole}

@@ -1,10 +1,9 @@
-use Rattle.std.proofs.Common.{◌≡◌, ℕ, List, Result, Ok, Err, sym, ap, ◌∙◌}
+use Rattle.std.proofs.Common.{ℕ, Result, Ok, Err, sym, ap, ◌∙◌}
 use Rattle.text_lines.specs.Lines.{lines}
 use Rattle.text_lines.proofs.FirstBadLaws.{first_bad}
 use Rattle.trace_ops.specs.declared.trace.TraceSet.{TraceSet}
 use Rattle.trace_text.specs.declared.fault.TextFault.{TextFault}
 use Rattle.trace_text.specs.Draft.{nothing, read_line, lines_at}
-use Rattle.trace_text.specs.Sections.{set_at}
 use Rattle.trace_text.proofs.FitDrafts.{in_range}
 use Rattle.trace_text.proofs.TableOf.{table_of_text}
 use Rattle.trace_text.proofs.laws.text_laws.Goals as goal

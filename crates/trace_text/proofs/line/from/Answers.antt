@@ -1,4 +1,4 @@
-use Rattle.std.proofs.Common.{◌≡◌, sym, ◌∙◌, true, false}
+use Rattle.std.proofs.Common.{sym, ◌∙◌}
 use Rattle.text_lines.specs.Words.{words}
 use Rattle.trace_text.proofs.Steps.{goes_on, stops, ends, ends_not}
 use Rattle.trace_text.proofs.line.from.Goals as goal

@@ -1,7 +1,6 @@
-use Rattle.std.proofs.Common.{sym, ap, ◌∙◌, Ok}
+use Rattle.std.proofs.Common.{sym}
 use Rattle.std.proofs.lemmas.Result.{err_from_is_err_and}
 use Rattle.std.proofs.lemmas.Bool.{eqb-true}
-use Rattle.trace_text.specs.Draft.{lines_at}
 use Rattle.trace_text.proofs.LineByLine.{begins, goes_on, ends, is_done}
 use Rattle.trace_text.proofs.reading.read_all.Goals as goal
 

@@ -1,5 +1,4 @@
 use Rattle.std.proofs.Common.{◌≡◌, ◌++◌, take}
-use Rattle.std.specs.List.{flat_map}
 use Rattle.trace_text.specs.Writing.{more_boxes}
 use Rattle.trace_text.proofs.writing.put_more_boxes.Given as goal
 

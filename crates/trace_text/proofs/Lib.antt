@@ -11,3 +11,4 @@ pub mod FitNames
 pub mod FitLines
 pub mod FitDrafts
 pub mod TableOf
+pub mod RangeByTables

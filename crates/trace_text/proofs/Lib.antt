@@ -1,0 +1,14 @@
+pub mod Steps
+pub mod LineByLine
+pub mod Cuts
+pub mod Through
+pub mod Again
+pub mod Repeats
+pub mod SpelledSlots
+pub mod SpelledLine
+pub mod SpelledHeading
+pub mod FitNames
+pub mod FitLines
+pub mod FitDrafts
+pub mod TableOf
+pub mod RangeByTables

@@ -1,0 +1,16 @@
+use Rattle.trace_text.proofs.Again.{inputs_again}
+use Rattle.trace_text.proofs.SpelledLine.{inputs_back}
+use Rattle.trace_text.proofs.SpelledHeading.{heading_again, heading_back}
+use Rattle.trace_text.proofs.laws.opening_laws.Goals as goal
+
+pub returns-clause-inputs_read : goal.returns-clause-inputs_read
+returns-clause-inputs_read c = inputs_back
+
+pub returns-clause-inputs_spelled : goal.returns-clause-inputs_spelled
+returns-clause-inputs_spelled c = inputs_again
+
+pub returns-clause-heading_read : goal.returns-clause-heading_read
+returns-clause-heading_read c = heading_back
+
+pub returns-clause-heading_spelled : goal.returns-clause-heading_spelled
+returns-clause-heading_spelled c = heading_again

@@ -1,0 +1,6 @@
+use Rattle.std.proofs.Common.{◌≡◌, drop}
+use Rattle.trace_text.specs.Names.{prebuilts_from}
+use Rattle.trace_text.proofs.lexicon.add_prebuilts.Given as goal
+
+abbrev pub invariant-loop-row : goal.invariant-loop-row
+invariant-loop-row l = prebuilts_from l.k (drop l.row-index l.rows) l.entries.entries ≡ prebuilts_from 0 l.rows l.fn.entries.entries

@@ -1,0 +1,11 @@
+pub mod Names
+pub mod Values
+pub mod Line
+pub mod Heading
+pub mod Boxes
+pub mod Faults
+pub mod Meaning
+pub mod Draft
+pub mod Sections
+pub mod Writing
+pub mod Spelling

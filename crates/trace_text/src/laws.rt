@@ -1,0 +1,44 @@
+//! What lines are read as, and which line decides.
+
+ghost use Rattle.std.specs.Prelude.{◌≡◌, ℕ, List, Some, Ok, Err};
+ghost use Rattle.text_lines.specs.Lines.{lines};
+ghost use Rattle.text_lines.specs.FirstBad.{IsFirstBad};
+ghost use Rattle.trace_ops.specs.declared.trace.TraceSet.{TraceSet};
+ghost use Rattle.trace_ops.specs.declared.table.Table.{Table};
+ghost use Rattle.descr_table.specs.Reading.{table_at};
+ghost use Rattle.trace_ops.specs.InRange.{IsTableInRange, IsInRange};
+ghost use Rattle.trace_text.specs.declared.heading.Heading.{Heading};
+ghost use Rattle.trace_text.specs.declared.line.Line.{Line};
+ghost use Rattle.trace_text.specs.declared.line.Slots.{Slots};
+ghost use Rattle.trace_text.specs.declared.fault.TextFault.{TextFault};
+ghost use Rattle.trace_text.specs.Names.{Names};
+ghost use Rattle.trace_text.specs.Line.{op_at, inputs_at};
+ghost use Rattle.trace_text.specs.Heading.{heading_at};
+ghost use Rattle.trace_text.specs.Spelling.{Parts, parts_of, SpellsLine, SpellsSnapshot, SpellsHeading};
+ghost use Rattle.trace_text.specs.Draft.{nothing, read_line, lines_at};
+ghost use Rattle.trace_text.specs.Sections.{set_at, IsTableOfText};
+
+/// What the line of an operation or a label is read as is spelled so, and what is spelled so is read.
+pub fn line_laws()
+    ensures read { (names : Names) (ws : List (List ℕ)) (l : Line) → op_at names ws ≡ Some l → SpellsLine names ws (parts_of l) }
+    ensures spelled { (names : Names) (ws : List (List ℕ)) (p : Parts) → SpellsLine names ws p → (l : Line) × (op_at names ws ≡ Some l) × (parts_of l ≡ p) }
+{}
+
+/// The same of the line of inputs, which is spelled as a snapshot, and of headings.
+pub fn opening_laws()
+    ensures inputs_read { (names : Names) (ws : List (List ℕ)) (l : Line) → inputs_at names ws ≡ Some l → SpellsSnapshot names ws l.frames }
+    ensures inputs_spelled { (names : Names) (ws : List (List ℕ)) (fs : List Slots) → SpellsSnapshot names ws fs → (l : Line) × (inputs_at names ws ≡ Some l) × (l.frames ≡ fs) }
+    ensures heading_read { (ws : List (List ℕ)) (h : Heading) → heading_at ws ≡ Some h → SpellsHeading ws h }
+    ensures heading_spelled { (ws : List (List ℕ)) (h : Heading) → SpellsHeading ws h → heading_at ws ≡ Some h }
+{}
+
+/// A text stands for at most one set. Its table is the one that lines of the text stand for, or empty, and the set is in
+/// range where the table is: so all sets are, if all tables that lines stand for are. A refusal of the lines of traces is
+/// that of the first bad line: the lines in front of it are read.
+pub fn text_laws()
+    ensures one_set { (text : List ℕ) (a b : TraceSet × ℕ) → set_at text ≡ Ok a → set_at text ≡ Ok b → a ≡ b }
+    ensures table { (text : List ℕ) (x : TraceSet × ℕ) → set_at text ≡ Ok x → IsTableOfText x.0.table }
+    ensures in_range { (text : List ℕ) (x : TraceSet × ℕ) → set_at text ≡ Ok x → IsTableInRange x.0.table → IsInRange x.0 }
+    ensures range_by_tables { ((first : ℕ) (part : List ℕ) (t : Table) → table_at first part ≡ Ok t → IsTableInRange t) → (text : List ℕ) (x : TraceSet × ℕ) → set_at text ≡ Ok x → IsInRange x.0 }
+    ensures first_bad { (names : Names) (first : ℕ) (text : List ℕ) (e : TextFault) → lines_at names first text ≡ Err e → IsFirstBad (read_line names) (lines text) first nothing e }
+{}

@@ -1,0 +1,4 @@
+pub mod Visiting
+pub mod Listing
+pub mod Roots
+pub mod Sameness

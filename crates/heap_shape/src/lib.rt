@@ -1,0 +1,13 @@
+//! Heaps up to the numbers of their objects: what of a store can be reached, listed in an order that depends on the roots alone.
+#![tactic(auto)]
+
+mod cell;
+mod laws;
+mod observed;
+mod visits;
+mod walk;
+
+pub use cell::{Cell, Ref};
+pub use laws::same_heaps_list_alike;
+pub use observed::roots;
+pub use walk::listing;

@@ -2,3 +2,5 @@ pub mod Lists
 pub mod Numbers
 pub mod Walks
 pub mod Along
+pub mod Steps
+pub mod InOrder

@@ -2,3 +2,4 @@ pub mod Visiting
 pub mod Listing
 pub mod Roots
 pub mod Sameness
+pub mod Order

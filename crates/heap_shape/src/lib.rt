@@ -8,6 +8,11 @@ mod visits;
 mod walk;
 
 pub use cell::{Cell, Ref};
-pub use laws::same_heaps_list_alike;
+pub use laws::{
+    numbers_are_places, roots_are_numbered_alone, same_heaps_list_alike, visits_are_in_order,
+};
 pub use observed::roots;
 pub use walk::listing;
+
+#[cfg(test)]
+mod tests;

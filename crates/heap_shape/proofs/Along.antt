@@ -14,7 +14,7 @@ use Rattle.heap_shape.specs.declared.cell.Ref.{Ref}
 use Rattle.heap_shape.specs.declared.cell.Ref.TheVariants as r
 use Rattle.heap_shape.specs.declared.cell.Cell.{Cell}
 use Rattle.heap_shape.specs.Visiting.{number_of, note, visit, parts_at, parts_in, walk_on, walk, visited, Has}
-use Rattle.heap_shape.specs.Listing.{ref_of, cell_of, cell_before, cells, listing}
+use Rattle.heap_shape.specs.Listing.{ref_of, cell_of, cell_before, cells}
 use Rattle.heap_shape.specs.Sameness.{Maps, Alongside, SameListing}
 use Rattle.heap_shape.proofs.Lists.{few_once, some_same}
 use Rattle.heap_shape.proofs.Numbers.{number_same, number_other}
@@ -129,15 +129,15 @@ visited_along m one other us vs along h =
     first : walk (length one + length other) one 0 (visit [] us) ≡ walk (length one) one 0 (visit [] us)
     first =
         let few : length (walk (length one) one 0 (visit [] us)) ≤ length one =
-            few_once (walk (length one) one 0 (visit [] us)) (length one) (walk_once (length one) one 0 (visit [] us) (visit_once us [] tt))
-            (first_below m one other along (walk (length one) one 0 (visit [] us)) (walk (length one) other 0 (visit [] vs)) (walk_along m one other along (length one) 0 (visit [] us) (visit [] vs) start)) in
+        few_once (walk (length one) one 0 (visit [] us)) (length one) (walk_once (length one) one 0 (visit [] us) (visit_once us [] tt))
+        (first_below m one other along (walk (length one) one 0 (visit [] us)) (walk (length one) other 0 (visit [] vs)) (walk_along m one other along (length one) 0 (visit [] us) (visit [] vs) start)) in
         walk_enough (length one) (length one + length other) one 0 (visit [] us) (omega arith) (omega (arith, few))
 
     second : walk (length one + length other) other 0 (visit [] vs) ≡ walk (length other) other 0 (visit [] vs)
     second =
         let few : length (walk (length other) other 0 (visit [] vs)) ≤ length other =
-            few_once (walk (length other) other 0 (visit [] vs)) (length other) (walk_once (length other) other 0 (visit [] vs) (visit_once vs [] tt))
-            (second_below m one other along (walk (length other) one 0 (visit [] us)) (walk (length other) other 0 (visit [] vs)) (walk_along m one other along (length other) 0 (visit [] us) (visit [] vs) start)) in
+        few_once (walk (length other) other 0 (visit [] vs)) (length other) (walk_once (length other) other 0 (visit [] vs) (visit_once vs [] tt))
+        (second_below m one other along (walk (length other) one 0 (visit [] us)) (walk (length other) other 0 (visit [] vs)) (walk_along m one other along (length other) 0 (visit [] us) (visit [] vs) start)) in
         walk_enough (length other) (length one + length other) other 0 (visit [] vs) (omega arith) (omega (arith, few))
 
 -- cells and roots

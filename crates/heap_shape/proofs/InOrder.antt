@@ -1,7 +1,6 @@
 -- A walk visits what the roots reach, in order.
-use Rattle.std.proofs.Common.{◌≡◌, ℕ, zero, suc, ◌+◌, ◌<◌, ◌≤◌, true, false, cond, eqb, List, [], ◌∷◌, ◌++◌, Option, None, Some, length, map, take, slice_get, get_or, refl, ap, sym, subst, ◌∙◌, ◌⊎◌, inl, inr, append_assoc, append-nil, arith}
+use Rattle.std.proofs.Common.{◌≡◌, ℕ, zero, suc, ◌+◌, ◌<◌, ◌≤◌, cond, eqb, List, [], ◌∷◌, ◌++◌, Option, None, Some, length, map, take, slice_get, refl, ap, sym, subst, ◌∙◌, ◌⊎◌, inl, inr, append_assoc, append-nil, arith}
 use Rattle.std.specs.Option.{option_map, is_some, unwrap_or}
-use Rattle.std.specs.List.{AllByRecursion}
 use Rattle.std.proofs.lemmas.Bool.{eq-eqb, ne_eqb}
 use Rattle.std.proofs.lemmas.Bool.Decides.{eqb_tells}
 use Rattle.std.proofs.lemmas.List.{take-append-le, take_more, take_all}
@@ -14,8 +13,8 @@ use Rattle.heap_shape.specs.declared.cell.Ref.{Ref}
 use Rattle.heap_shape.specs.declared.cell.Ref.TheVariants as r
 use Rattle.heap_shape.specs.Listing.{ref_of}
 use Rattle.heap_shape.specs.Order.{Leads, Reaches, all_parts, AreVisits, VisitsInOrder, NumbersArePlaces, RootsAlone}
-use Rattle.heap_shape.proofs.Lists.{has_left, has_right, has_cases, has_get, once_push, few_once, some_same}
-use Rattle.heap_shape.proofs.Numbers.{number_none, number_same, number_other}
+use Rattle.heap_shape.proofs.Lists.{has_left, has_right, has_cases, has_get, few_once, some_same}
+use Rattle.heap_shape.proofs.Numbers.{number_same, number_other}
 use Rattle.heap_shape.proofs.Walks.{visit_once, parts_within}
 
 -- numbers are places

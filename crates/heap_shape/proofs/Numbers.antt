@@ -1,11 +1,11 @@
 -- Numbers by first visit.
-use Rattle.std.proofs.Common.{◌≡◌, ◌≢◌, ℕ, zero, suc, ◌<◌, ◌≤◌, ◌^◌, Bool, true, false, cond, eqb, List, [], ◌∷◌, ◌++◌, Option, None, Some, length, slice_get, slice_set, get_or, length-set, refl, ap, sym, subst, ◌∙◌, ◌⊎◌, inl, inr, arith}
+use Rattle.std.proofs.Common.{◌≡◌, ◌≢◌, ℕ, suc, ◌<◌, ◌≤◌, ◌^◌, Bool, true, false, cond, eqb, List, [], ◌∷◌, ◌++◌, Option, None, Some, length, slice_get, slice_set, get_or, length-set, refl, ap, sym, subst, ◌∙◌, inl, inr}
 use Rattle.std.specs.Option.{option_map, is_some}
 use Rattle.std.proofs.lemmas.Bool.{ne_eqb, eq-eqb}
 use Rattle.std.proofs.lemmas.Bool.Decides.{eqb_tells}
-use Rattle.std.proofs.lemmas.Option.{get_or_from_slice_get, slice_get_within}
-use Rattle.heap_shape.specs.Visiting.{number_of, note, Has, IsOnce, IsNumbered}
-use Rattle.heap_shape.proofs.Lists.{has_cases, has_get, once_push, few_once, get_set_same, get_set_other}
+use Rattle.std.proofs.lemmas.Option.{get_or_from_slice_get}
+use Rattle.heap_shape.specs.Visiting.{number_of, note, Has, IsNumbered}
+use Rattle.heap_shape.proofs.Lists.{has_cases, once_push, few_once, get_set_same, get_set_other}
 
 pub number_same : (x : ℕ) (xs : List ℕ) (n : ℕ) → eqb x n ≡ true → number_of (x ∷ xs) n ≡ Some 0
 number_same x xs n e = ap (λ (b : Bool). cond b (Some 0) (option_map suc (number_of xs n))) e
@@ -84,4 +84,3 @@ numbered_push seen numbers n number h within new next = record {
   where
     count : length (slice_set numbers n (Some number)) ≡ length numbers
     count = length-set numbers n (Some number)
-

@@ -1,10 +1,10 @@
 -- Loops over values and objects.
-use Rattle.std.proofs.Common.{◌≡◌, ℕ, zero, suc, ◌+◌, ◌-◌, ◌<◌, ◌≤◌, List, [], ◌∷◌, ◌++◌, Option, Some, length, drop, slice_get, get_or, refl, ap, sym, subst, ◌∙◌, append_assoc, drop-cons, arith}
+use Rattle.std.proofs.Common.{◌≡◌, ℕ, suc, ◌+◌, ◌-◌, ◌<◌, List, [], ◌∷◌, ◌++◌, Option, Some, length, drop, slice_get, ap, sym, subst, ◌∙◌, append_assoc, drop-cons, arith}
 use Rattle.std.proofs.lemmas.Option.{slice_get_within, get_or_from_slice_get}
 use Rattle.trace_meaning.specs.declared.value.Value.{Value}
 use Rattle.trace_meaning.specs.declared.value.Object.{Object}
 use Rattle.heap_shape.specs.declared.cell.Cell.{Cell}
-use Rattle.heap_shape.specs.Visiting.{note_value, visit, parts_at, parts_in, walk, AreWithin}
+use Rattle.heap_shape.specs.Visiting.{note_value, visit, parts_in, walk, AreWithin}
 use Rattle.heap_shape.specs.Listing.{cell_of, cell_before, cells}
 use Rattle.heap_shape.proofs.Walks.{walk_step}
 

@@ -1,12 +1,12 @@
 -- Walks: each object once, and no more steps than objects.
-use Rattle.std.proofs.Common.{◌≡◌, ℕ, zero, suc, ◌+◌, ◌<◌, ◌≤◌, cond, List, [], ◌∷◌, ◌++◌, Option, None, Some, length, slice_get, refl, ap, sym, subst, ◌∙◌, arith}
+use Rattle.std.proofs.Common.{◌≡◌, ℕ, zero, suc, ◌+◌, ◌≤◌, cond, List, [], ◌∷◌, ◌++◌, Option, None, Some, length, slice_get, refl, ap, subst, arith}
 use Rattle.std.specs.Option.{is_some}
 use Rattle.std.specs.List.{AllByRecursion}
 use Rattle.std.proofs.lemmas.Option.{slice_get_past}
 use Rattle.trace_meaning.specs.declared.value.Value.{Value}
 use Rattle.trace_meaning.specs.declared.value.Value.TheVariants as v
 use Rattle.trace_meaning.specs.declared.value.Object.{Object}
-use Rattle.heap_shape.specs.Visiting.{number_of, note, visit, parts_at, parts_in, walk_on, walk, AreWithin, IsClosed, Has, IsOnce}
+use Rattle.heap_shape.specs.Visiting.{number_of, note, visit, parts_at, walk_on, walk, AreWithin, IsClosed, IsOnce}
 use Rattle.heap_shape.proofs.Lists.{once_push, some_same}
 use Rattle.heap_shape.proofs.Numbers.{number_none}
 

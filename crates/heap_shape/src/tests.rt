@@ -63,7 +63,10 @@ fn shared_objects_are_listed_once_and_unreached_ones_never(rt: HostRuntime) -> R
     assert_eq!(rt; third.copy()?, third);
     let expected = vec![in alloc; first, second, third]?;
     assert_eq!(rt; cells.as_slice(), expected.as_slice());
-    assert_eq!(rt; refs.as_slice(), [Ref::Null, Ref::Num(0), Ref::Int(9), Ref::Num(1)].as_slice());
+    assert_eq!(rt;
+        refs.as_slice(),
+        [Ref::Null, Ref::Num(0), Ref::Int(9), Ref::Num(1)].as_slice()
+    );
     Ok(())
 }
 
@@ -88,7 +91,10 @@ fn an_object_that_names_itself_is_seen_by_a_call(rt: HostRuntime) -> Result<(), 
     let (cells, refs) = listing(alloc, &store, expected.as_slice())?;
     let expected = vec![in alloc; listed(alloc, 7, Ref::Num(0))?]?;
     assert_eq!(rt; cells.as_slice(), expected.as_slice());
-    assert_eq!(rt; refs.as_slice(), [Ref::Num(0), Ref::Int(7), Ref::Num(0), Ref::Num(0)].as_slice());
+    assert_eq!(rt;
+        refs.as_slice(),
+        [Ref::Num(0), Ref::Int(7), Ref::Num(0), Ref::Num(0)].as_slice()
+    );
     Ok(())
 }
 

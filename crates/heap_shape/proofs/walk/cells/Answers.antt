@@ -21,7 +21,7 @@ pub cell-requires-clause-within : goal.cell-requires-clause-within
 cell-requires-clause-within c =
     let seen = c.args.visits.now.order.items in let items = c.deref-object-items.result.now in let i = c.loop-object.object-index in let objects = c.args.objects.now in
     let inside = subst (λ (k : ℕ). get_or items i 0 < k) c.requires.count
-        (c.requires.numbered.below (get_or items i 0) (has_get seen i (get_or items i 0) (next_at seen items i c.loop-object-test.true c.deref-object-items.ensures.value))) in
+    (c.requires.numbered.below (get_or items i 0) (has_get seen i (get_or items i 0) (next_at seen items i c.loop-object-test.true c.deref-object-items.ensures.value))) in
     let found = slice_get_read objects (length objects) (get_or items i 0) c.index-objects-object.result refl inside c.index-objects-object.is in
     subst (λ (k : ℕ). AreWithin k c.index-objects-object.result.parts) (sym c.requires.count)
     (parts_within objects (get_or items i 0) c.index-objects-object.result c.requires.closed found)

@@ -30,7 +30,7 @@ add_values-requires-in-loop-done-clause-within c =
     let seen = c.loop-done.visits.order.items in let objects = c.args.objects.now in
     let within : c.loop-done.done < length seen = omega (arith, c.len.ensures, c.loop-done-test.true) in
     let inside = next_within seen c.loop-done.visits.numbers.items c.loop-done.done c.index.result.now (length objects) c.loop-done.invariant.numbered c.loop-done.invariant.count
-        (slice_get_read seen (length seen) c.loop-done.done c.index.result.now refl within c.index.ensures) in
+    (slice_get_read seen (length seen) c.loop-done.done c.index.result.now refl within c.index.ensures) in
     let found = slice_get_read objects (length objects) c.index.result.now c.index-objects-object.result refl inside c.index-objects-object.is in
     let same = c.items.ensures ∙ sym (ap (λ (x : Object). x.parts) c.index-objects-object.is) in
     subst (λ (k : ℕ). AreWithin k c.items.result.now) (sym c.loop-done.invariant.count)
@@ -41,7 +41,7 @@ loop-done-smaller c =
     let seen = c.loop-done.visits.order.items in
     let within : c.loop-done.done < length seen = omega (arith, c.len.ensures, c.loop-done-test.true) in
     let fits : c.loop-done.done < length c.args.objects.now =
-        few_within seen c.loop-done.visits.numbers.items c.loop-done.done (length c.args.objects.now) c.loop-done.invariant.numbered c.loop-done.invariant.count within in
+    few_within seen c.loop-done.visits.numbers.items c.loop-done.done (length c.args.objects.now) c.loop-done.invariant.numbered c.loop-done.invariant.count within in
     omega arith
 
 pub loop-done-preserved : goal.loop-done-preserved

@@ -1,6 +1,6 @@
-use Rattle.std.proofs.Common.{◌≡◌, ◌≤◌, List, None, Some, length, slice_set, sym, subst, ◌∙◌, arith}
+use Rattle.std.proofs.Common.{◌≡◌, ◌≤◌, List, Some, length, slice_set, sym, subst, ◌∙◌, arith}
 use Rattle.std.proofs.Common.{ℕ}
-use Rattle.heap_shape.specs.Visiting.{number_of, IsNumbered}
+use Rattle.heap_shape.specs.Visiting.{IsNumbered}
 use Rattle.heap_shape.proofs.Numbers.{number_untold, note_push, numbered_few, numbered_push}
 use Rattle.heap_shape.proofs.visits.Visits.add.Goals as goal
 

@@ -228,6 +228,7 @@ walk_whole : (objects : List Object) (roots : List Value) (i : ℕ) (seen : List
 walk_whole objects roots i seen h past = record {
   complete = λ n w. leads_inside objects seen inside w.2 w.0 n (all_in w.0 (has_left roots (all_parts objects seen) (v.Obj w.0) w.1)) w.3;
   sound = h.sound;
+  in_store = h.below;
   once = h.once;
   in_order = order;
 }

@@ -4,3 +4,5 @@ pub mod Walks
 pub mod Along
 pub mod Steps
 pub mod InOrder
+pub mod RootsAlong
+pub mod CellsInOrder

@@ -8,7 +8,7 @@ use crate::Ref;
 use std::alloc::{AllocError, Global};
 use trace_meaning::Value;
 
-// By object, `numbers` has its place in `order`.
+/// The objects visited so far, in order. By object, `numbers` has its place in `order`.
 #[derive(Drop)]
 pub struct Visits {
     pub(crate) order: Vec<u32>,
@@ -16,7 +16,7 @@ pub struct Visits {
 }
 
 impl Visits {
-    // None of so many objects was visited.
+    /// None of so many objects was visited.
     pub fn new(alloc: Global, count: usize) -> Result<Visits, AllocError>
         requires { count < 2 ^ 32 }
         ensures order { IfOk result (λ v. v.order.items ≡ []) }
@@ -45,7 +45,7 @@ impl Visits {
         Ok(())
     }
 
-    // The same of a value that may be an object.
+    // The same of a value, which may be an object.
     fn add_value(&mut self, value: Value) -> Result<(), AllocError>
         requires within { IsWithin (length self.old.numbers.items) value }
         requires numbered { IsNumbered self.old.order.items self.old.numbers.items }
@@ -59,7 +59,7 @@ impl Visits {
         }
     }
 
-    // The same of each value, from left to right.
+    /// Each object that the values name is visited, from left to right.
     pub fn add_values(&mut self, values: &[Value]) -> Result<(), AllocError>
         requires within { AreWithin (length self.old.numbers.items) values.now }
         requires numbered { IsNumbered self.old.order.items self.old.numbers.items }
@@ -73,7 +73,7 @@ impl Visits {
         Ok(())
     }
 
-    // The value with the object's number.
+    // The value with the object's number. Each object that is asked for was visited.
     fn ref_of(&self, value: Value) -> Ref
         requires within { IsWithin (length self.now.numbers.items) value }
         requires numbered { IsNumbered self.now.order.items self.now.numbers.items }
@@ -86,7 +86,7 @@ impl Visits {
         }
     }
 
-    // The same of each value.
+    /// The values with the objects' numbers.
     pub fn refs_of(&self, alloc: Global, values: &[Value]) -> Result<Vec<Ref>, AllocError>
         requires within { AreWithin (length self.now.numbers.items) values.now }
         requires numbered { IsNumbered self.now.order.items self.now.numbers.items }

@@ -23,8 +23,7 @@ cells_at : (objects : List Object) (seen ns : List ℕ) → ((n : ℕ) → Has n
     → (x : Object) × (slice_get objects n ≡ Some x) × (slice_get (cells objects seen ns) k ≡ Some (cell_of seen x))
 cells_at objects seen [] below k n h = absurd (none-some n h)
 cells_at objects seen (m ∷ ms) below zero n h =
-    let found = get_some objects m (below m (inl refl)) in
-    (
+    let found = get_some objects m (below m (inl refl)) in (
       found.0,
       subst (λ (i : ℕ). slice_get objects i ≡ Some found.0) (some_same h) found.1,
       ap (λ (o : Option Object). slice_get (cell_before seen o (cells objects seen ms)) zero) found.1,
@@ -36,8 +35,7 @@ cells_at objects seen (m ∷ ms) below (suc k) n h =
 
 pub cells_are_objects : CellsAreObjects
 cells_are_objects objects roots closed within =
-    let visits = visits_in_order objects roots closed within in
-    (
+    let visits = visits_in_order objects roots closed within in (
       cells_length objects (visited objects roots) (visited objects roots) visits.in_store,
       cells_at objects (visited objects roots) (visited objects roots) visits.in_store,
     )

@@ -1,11 +1,11 @@
 -- Runs whose calls agree along a map have roots that agree.
-use Rattle.std.proofs.Common.{◌≡◌, ℕ, zero, suc, ◌+◌, ◌<◌, List, [], ◌∷◌, ◌++◌, Option, None, Some, arith}
+use Rattle.std.proofs.Common.{◌≡◌, ℕ, zero, suc, ◌<◌, List, [], ◌∷◌, ◌++◌, Option, None, Some, arith}
 use Rattle.std.specs.Option.{option_to_list}
 use Rattle.std.specs.List.{AllZip}
 use Rattle.trace_meaning.specs.declared.value.Value.{Value}
 use Rattle.trace_meaning.specs.declared.value.Value.TheVariants as v
 use Rattle.trace_meaning.specs.declared.call.CallEvent.{CallEvent}
-use Rattle.heap_shape.specs.Roots.{prebuilt_objects, roots_of_call, roots_of_calls, roots}
+use Rattle.heap_shape.specs.Roots.{prebuilt_objects, roots_of_call, roots_of_calls}
 use Rattle.heap_shape.specs.Sameness.{Maps, MapsIf, SameCall, SameRoots}
 
 zip_append : (m : ℕ → Option ℕ) (xs ys us vs : List Value) → AllZip (Maps m) xs ys → AllZip (Maps m) us vs → AllZip (Maps m) (xs ++ us) (ys ++ vs)

@@ -8,7 +8,7 @@ use Rattle.std.proofs.lemmas.Option.{slice_get_within, get_or_from_slice_get, sl
 use Rattle.trace_meaning.specs.declared.value.Value.{Value}
 use Rattle.trace_meaning.specs.declared.value.Value.TheVariants as v
 use Rattle.trace_meaning.specs.declared.value.Object.{Object}
-use Rattle.heap_shape.specs.Visiting.{number_of, note, note_value, visit, parts_at, parts_in, walk_on, walk, visited, IsWithin, AreWithin, IsClosed, Has, IsOnce}
+use Rattle.heap_shape.specs.Visiting.{number_of, note, note_value, visit, parts_at, parts_in, walk_on, walk, visited, IsWithin, AreWithin, AllVisited, PartsVisited, IsClosed, Has, IsOnce}
 use Rattle.heap_shape.specs.declared.cell.Ref.{Ref}
 use Rattle.heap_shape.specs.declared.cell.Ref.TheVariants as r
 use Rattle.heap_shape.specs.Listing.{ref_of}
@@ -271,3 +271,18 @@ pub roots_alone : RootsAlone
 roots_alone objects roots =
     let more = walk_extends (length objects) objects 0 (visit [] roots) in
     ap (λ (ns : List ℕ). map (ref_of ns) roots) more.1 ∙ refs_front (visit [] roots) more.0 roots (λ n h. visit_has roots [] n h)
+
+-- what is asked for was visited
+all_visited : (xs : List Value) (seen : List ℕ) → ((n : ℕ) → Has xs (v.Obj n) → Has seen n) → AllVisited seen xs
+all_visited [] seen h = tt
+all_visited (v.Int w ∷ xs) seen h = (tt, all_visited xs seen (λ n u. h n (inr u)))
+all_visited (v.Null ∷ xs) seen h = (tt, all_visited xs seen (λ n u. h n (inr u)))
+all_visited (v.Obj n ∷ xs) seen h = (h n (inl refl), all_visited xs seen (λ m u. h m (inr u)))
+
+pub roots_visited : (objects : List Object) (roots : List Value) (seen : List ℕ) → AreVisits objects roots seen → AllVisited seen roots
+roots_visited objects roots seen h = all_visited roots seen (λ n w. h.complete n (n, w, [], refl))
+
+pub parts_visited : (objects : List Object) (roots : List Value) (seen : List ℕ) → AreVisits objects roots seen → PartsVisited objects seen
+parts_visited objects roots seen h n w = all_visited (parts_at objects n) seen (λ m u.
+    let way = h.sound n w in
+    h.complete m (way.0, way.1, way.2 ++ m ∷ [], leads_more objects way.2 way.0 n m way.3 u))

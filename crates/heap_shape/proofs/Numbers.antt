@@ -1,6 +1,6 @@
 -- Numbers by first visit.
 use Rattle.std.proofs.Common.{◌≡◌, ◌≢◌, ℕ, suc, ◌<◌, ◌≤◌, ◌^◌, Bool, true, false, cond, eqb, List, [], ◌∷◌, ◌++◌, Option, None, Some, length, slice_get, slice_set, get_or, length-set, refl, ap, sym, subst, ◌∙◌, inl, inr}
-use Rattle.std.specs.Option.{option_map, is_some}
+use Rattle.std.specs.Option.{option_map, is_some, IsSome}
 use Rattle.std.proofs.lemmas.Bool.{ne_eqb, eq-eqb}
 use Rattle.std.proofs.lemmas.Bool.Decides.{eqb_tells}
 use Rattle.std.proofs.lemmas.Option.{get_or_from_slice_get}
@@ -48,6 +48,14 @@ note_push seen n e = ap (λ (o : Option ℕ). cond (is_some o) seen (seen ++ n �
 none_at : (o : Option ℕ) → is_some o ≡ false → o ≡ None
 none_at None h = refl
 none_at (Some k) h = cc
+
+-- what was visited has a number
+pub number_some : (seen : List ℕ) (n : ℕ) → Has seen n → IsSome (number_of seen n)
+number_some seen n h = by (number_of seen n) refl
+  where
+    by : (o : Option ℕ) → number_of seen n ≡ o → IsSome o
+    by None e = absurd (number_none seen n e h)
+    by (Some k) e = refl
 
 -- what the list of numbers says
 pub number_told : (seen : List ℕ) (numbers : List (Option ℕ)) (n : ℕ) (found : Option ℕ) → IsNumbered seen numbers → n < length numbers → found ≡ get_or numbers n found → found ≡ number_of seen n

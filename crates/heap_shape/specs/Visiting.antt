@@ -70,6 +70,19 @@ abbrev pub IsOnce : List ℕ → Type 0
 IsOnce [] = Unit {0}
 IsOnce (n ∷ ns) = (Has ns n → ⊥) × IsOnce ns
 
+-- an object that the value names was visited
+abbrev pub IsVisited : List ℕ → Value → Type 0
+IsVisited seen (v.Obj n) = Has seen n
+IsVisited seen (v.Int w) = Unit {0}
+IsVisited seen v.Null = Unit {0}
+
+abbrev pub AllVisited : List ℕ → List Value → Type 0
+AllVisited seen values = AllByRecursion (IsVisited seen) values
+
+-- so were the parts of each that was
+abbrev pub PartsVisited : List Object → List ℕ → Type 0
+PartsVisited objects seen = (n : ℕ) → Has seen n → AllVisited seen (parts_at objects n)
+
 -- by object, its number among those visited
 pub record IsNumbered (seen : List ℕ) (numbers : List (Option ℕ)) : Type 0 where
   pub short : length numbers < 2 ^ 32

@@ -1,7 +1,7 @@
 //! The objects visited so far, in order, and the number of each.
 
 ghost use Rattle.std.specs.Prelude.{◌≡◌, ◌<◌, ◌^◌, [], drop, length, map, IfOk, OnOk};
-ghost use Rattle.heap_shape.specs.Visiting.{note, note_value, visit, AreWithin, IsWithin, IsNumbered};
+ghost use Rattle.heap_shape.specs.Visiting.{note, note_value, visit, AllVisited, AreWithin, IsNumbered, IsVisited, IsWithin};
 ghost use Rattle.heap_shape.specs.Listing.{ref_of};
 
 use crate::Ref;
@@ -73,22 +73,22 @@ impl Visits {
         Ok(())
     }
 
-    // The value with the object's number. Each object that is asked for was visited.
+    // The value with the object's number.
     fn ref_of(&self, value: Value) -> Ref
-        requires within { IsWithin (length self.now.numbers.items) value }
+        requires visited { IsVisited self.now.order.items value }
         requires numbered { IsNumbered self.now.order.items self.now.numbers.items }
         ensures { result ≡ ref_of self.now.order.items value }
     {
         match value {
             Value::Int(word) => Ref::Int(word),
             Value::Null => Ref::Null,
-            Value::Obj(object) => Ref::Num(self.numbers[object as usize].unwrap_or(0)),
+            Value::Obj(object) => Ref::Num(self.numbers[object as usize].unwrap()),
         }
     }
 
     /// The values with the objects' numbers.
     pub fn refs_of(&self, alloc: Global, values: &[Value]) -> Result<Vec<Ref>, AllocError>
-        requires within { AreWithin (length self.now.numbers.items) values.now }
+        requires visited { AllVisited self.now.order.items values.now }
         requires numbered { IsNumbered self.now.order.items self.now.numbers.items }
         ensures { IfOk result (λ refs. refs.items ≡ map (ref_of self.now.order.items) values.now) }
     {

@@ -1,7 +1,7 @@
 //! The listing of what the roots reach.
 
 ghost use Rattle.std.specs.Prelude.{◌≡◌, ◌<◌, ◌^◌, length, slice_get, Some, map, IfOk, OnOk};
-ghost use Rattle.heap_shape.specs.Visiting.{visited, AreWithin, IsClosed, IsNumbered};
+ghost use Rattle.heap_shape.specs.Visiting.{visited, AllVisited, AreWithin, IsClosed, IsNumbered, PartsVisited};
 ghost use Rattle.heap_shape.specs.Listing.{cell_of, cells, listing as listing_of};
 
 use crate::visits::Visits;
@@ -18,6 +18,8 @@ fn visit_all(alloc: Global, objects: &[Object], roots: &[Value]) -> Result<Visit
     ensures order { IfOk result (λ v. v.order.items ≡ visited objects.now roots.now) }
     ensures count { IfOk result (λ v. length v.numbers.items ≡ length objects.now) }
     ensures numbered { IfOk result (λ v. IsNumbered v.order.items v.numbers.items) }
+    ensures roots { IfOk result (λ v. AllVisited v.order.items roots.now) }
+    ensures parts { IfOk result (λ v. PartsVisited objects.now v.order.items) }
 {
     let mut visits = Visits::new(alloc, objects.len())?;
     visits.add_values(roots)?;
@@ -32,7 +34,7 @@ fn visit_all(alloc: Global, objects: &[Object], roots: &[Value]) -> Result<Visit
 
 // The cell of an object.
 fn cell(alloc: Global, visits: &Visits, object: &Object) -> Result<Cell, AllocError>
-    requires within { AreWithin (length visits.now.numbers.items) object.now.parts }
+    requires visited { AllVisited visits.now.order.items object.now.parts }
     requires numbered { IsNumbered visits.now.order.items visits.now.numbers.items }
     ensures { IfOk result (λ c. c ≡ cell_of visits.now.order.items object.now) }
 {
@@ -45,7 +47,7 @@ fn cell(alloc: Global, visits: &Visits, object: &Object) -> Result<Cell, AllocEr
 
 // The cells of all objects visited.
 fn cells(alloc: Global, visits: &Visits, objects: &[Object]) -> Result<Vec<Cell>, AllocError>
-    requires closed { IsClosed objects.now }
+    requires visited { PartsVisited objects.now visits.now.order.items }
     requires count { length visits.now.numbers.items ≡ length objects.now }
     requires numbered { IsNumbered visits.now.order.items visits.now.numbers.items }
     ensures { IfOk result (λ cs. cs.items ≡ cells objects.now visits.now.order.items visits.now.order.items) }

@@ -1,8 +1,8 @@
-use Rattle.std.proofs.Common.{◌≡◌, ℕ, ◌<◌, List, Some, length, slice_get, get_or, refl, ap, sym, subst, ◌∙◌}
+use Rattle.std.proofs.Common.{◌≡◌, ℕ, ◌<◌, List, Option, Some, length, slice_get, get_or, refl, ap, sym, subst, ◌∙◌}
 use Rattle.std.proofs.lemmas.Option.{slice_get_read, slice_get-get_or}
-use Rattle.heap_shape.specs.Visiting.{AreWithin}
+use Rattle.trace_meaning.specs.declared.value.Object.{Object}
+use Rattle.heap_shape.specs.Visiting.{AllVisited, parts_in}
 use Rattle.heap_shape.proofs.Lists.{has_get}
-use Rattle.heap_shape.proofs.Walks.{parts_within}
 use Rattle.heap_shape.proofs.Steps.{cells_rest}
 use Rattle.heap_shape.proofs.walk.cells.Goals as goal
 
@@ -17,14 +17,16 @@ bounds-objects-object c =
     subst (λ (k : ℕ). get_or items i 0 < k) c.requires.count
     (c.requires.numbered.below (get_or items i 0) (has_get seen i (get_or items i 0) (next_at seen items i c.loop-object-test.true c.deref-object-items.ensures.value)))
 
-pub cell-requires-clause-within : goal.cell-requires-clause-within
-cell-requires-clause-within c =
-    let seen = c.args.visits.now.order.items in let items = c.deref-object-items.result.now in let i = c.loop-object.object-index in let objects = c.args.objects.now in
-    let inside = subst (λ (k : ℕ). get_or items i 0 < k) c.requires.count
-    (c.requires.numbered.below (get_or items i 0) (has_get seen i (get_or items i 0) (next_at seen items i c.loop-object-test.true c.deref-object-items.ensures.value))) in
+pub cell-requires-clause-visited : goal.cell-requires-clause-visited
+cell-requires-clause-visited c =
+    let seen = c.args.visits.now.order.items in
+    let items = c.deref-object-items.result.now in
+    let i = c.loop-object.object-index in
+    let objects = c.args.objects.now in
+    let has = has_get seen i (get_or items i 0) (next_at seen items i c.loop-object-test.true c.deref-object-items.ensures.value) in
+    let inside = subst (λ (k : ℕ). get_or items i 0 < k) c.requires.count (c.requires.numbered.below (get_or items i 0) has) in
     let found = slice_get_read objects (length objects) (get_or items i 0) c.index-objects-object.result refl inside c.index-objects-object.is in
-    subst (λ (k : ℕ). AreWithin k c.index-objects-object.result.parts) (sym c.requires.count)
-    (parts_within objects (get_or items i 0) c.index-objects-object.result c.requires.closed found)
+    subst (λ (o : Option Object). AllVisited seen (parts_in o)) found (c.requires.visited (get_or items i 0) has)
 
 pub loop-object-preserved : goal.loop-object-preserved
 loop-object-preserved c =

@@ -2,11 +2,12 @@ use Rattle.std.proofs.Common.{◌≡◌, ℕ, ◌<◌, ◌≤◌, List, Option, 
 use Rattle.std.proofs.lemmas.Option.{slice_get_read}
 use Rattle.trace_meaning.specs.declared.value.Value.{Value}
 use Rattle.trace_meaning.specs.declared.value.Object.{Object}
-use Rattle.heap_shape.specs.Visiting.{AreWithin, IsNumbered}
+use Rattle.heap_shape.specs.Visiting.{AllVisited, AreWithin, IsNumbered, PartsVisited}
 use Rattle.heap_shape.proofs.Lists.{has_get}
 use Rattle.heap_shape.proofs.Numbers.{numbered_few}
 use Rattle.heap_shape.proofs.Walks.{walk_ends, parts_within}
 use Rattle.heap_shape.proofs.Steps.{walk_goes}
+use Rattle.heap_shape.proofs.InOrder.{visits_in_order, roots_visited, parts_visited}
 use Rattle.heap_shape.proofs.walk.visit_all.Goals as goal
 
 -- what is next is an object
@@ -63,3 +64,17 @@ pub returns-clause-order : goal.returns-clause-order
 returns-clause-order c =
     let past : length c.loop-done.visits.order.items ≤ c.loop-done.done = omega (arith, c.len.ensures, c.loop-done-test.false) in
     sym (walk_ends _ c.args.objects.now c.loop-done.done c.loop-done.visits.order.items past) ∙ c.loop-done.invariant.order
+
+pub returns-clause-roots : goal.returns-clause-roots
+returns-clause-roots c =
+    let past : length c.loop-done.visits.order.items ≤ c.loop-done.done = omega (arith, c.len.ensures, c.loop-done-test.false) in
+    let all = sym (walk_ends _ c.args.objects.now c.loop-done.done c.loop-done.visits.order.items past) ∙ c.loop-done.invariant.order in
+    subst (λ (ns : List ℕ). AllVisited ns c.args.roots.now) (sym all)
+    (roots_visited c.args.objects.now c.args.roots.now _ (visits_in_order c.args.objects.now c.args.roots.now c.requires.closed c.requires.roots))
+
+pub returns-clause-parts : goal.returns-clause-parts
+returns-clause-parts c =
+    let past : length c.loop-done.visits.order.items ≤ c.loop-done.done = omega (arith, c.len.ensures, c.loop-done-test.false) in
+    let all = sym (walk_ends _ c.args.objects.now c.loop-done.done c.loop-done.visits.order.items past) ∙ c.loop-done.invariant.order in
+    subst (λ (ns : List ℕ). PartsVisited c.args.objects.now ns) (sym all)
+    (parts_visited c.args.objects.now c.args.roots.now _ (visits_in_order c.args.objects.now c.args.roots.now c.requires.closed c.requires.roots))

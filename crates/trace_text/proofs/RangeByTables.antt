@@ -1,5 +1,5 @@
 -- Sets are in range where all tables of lines are.
-use Rattle.std.proofs.Common.{◌≡◌, ℕ, ◌<◌, ◌≤◌, List, length, Ok, sym, subst, inl, inr, arith}
+use Rattle.std.proofs.Common.{◌≡◌, ℕ, ◌<◌, ◌≤◌, List, length, Ok, Err, IfOk, Result, sym, subst, inl, inr, arith}
 use Rattle.std.proofs.lemmas.List.Elements.{All-nil}
 use Rattle.trace_ops.specs.declared.table.Table.{Table}
 use Rattle.trace_ops.specs.declared.table.SizeRow.{SizeRow}
@@ -10,7 +10,10 @@ use Rattle.trace_ops.specs.Kinds.{NamesShape}
 use Rattle.trace_ops.specs.InRange.{NamesCall, IsPrebuilt, IsTableInRange, IsInRange}
 use Rattle.descr_table.specs.Meaning.{nothing}
 use Rattle.descr_table.specs.Reading.{table_at}
+use Rattle.trace_text.specs.declared.fault.TextFault.{TextFault}
+use Rattle.trace_text.specs.Faults.{Gives}
 use Rattle.trace_text.specs.Sections.{set_at}
+use Rattle.descr_table.proofs.LinesKept.{table_in_range}
 use Rattle.trace_text.proofs.FitDrafts.{in_range}
 use Rattle.trace_text.proofs.TableOf.{table_of_text}
 
@@ -40,3 +43,11 @@ range_by_tables f text x e = in_range text x e (elim (table_of_text text x e) [
   | inl is ↦ subst IsTableInRange (sym is) nothing_in_range
   | inr h ↦ f h.0 h.1 x.0.table h.2
 ])
+
+-- a set that a text stands for is in range
+pub set_in_range : (text : List ℕ) (x : TraceSet × ℕ) → set_at text ≡ Ok x → IsInRange x.0
+set_in_range text x e = range_by_tables table_in_range text x e
+
+pub read_in_range : (r : Result (TraceSet × ℕ) TextFault) (text : List ℕ) → Gives r (set_at text) → IfOk r (λ x. IsInRange x.0)
+read_in_range (Ok x) text h = set_in_range text x h
+read_in_range (Err e) text h = tt

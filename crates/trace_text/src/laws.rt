@@ -4,9 +4,7 @@ ghost use Rattle.std.specs.Prelude.{◌≡◌, ℕ, List, Some, Ok, Err};
 ghost use Rattle.text_lines.specs.Lines.{lines};
 ghost use Rattle.text_lines.specs.FirstBad.{IsFirstBad};
 ghost use Rattle.trace_ops.specs.declared.trace.TraceSet.{TraceSet};
-ghost use Rattle.trace_ops.specs.declared.table.Table.{Table};
-ghost use Rattle.descr_table.specs.Reading.{table_at};
-ghost use Rattle.trace_ops.specs.InRange.{IsTableInRange, IsInRange};
+ghost use Rattle.trace_ops.specs.InRange.{IsInRange};
 ghost use Rattle.trace_text.specs.declared.heading.Heading.{Heading};
 ghost use Rattle.trace_text.specs.declared.line.Line.{Line};
 ghost use Rattle.trace_text.specs.declared.line.Slots.{Slots};
@@ -33,12 +31,10 @@ pub fn opening_laws()
 {}
 
 /// A text stands for at most one set. Its table is the one that lines of the text stand for, or empty, and the set is in
-/// range where the table is: so all sets are, if all tables that lines stand for are. A refusal of the lines of traces is
-/// that of the first bad line: the lines in front of it are read.
+/// range. A refusal of the lines of traces is that of the first bad line: the lines in front of it are read.
 pub fn text_laws()
     ensures one_set { (text : List ℕ) (a b : TraceSet × ℕ) → set_at text ≡ Ok a → set_at text ≡ Ok b → a ≡ b }
     ensures table { (text : List ℕ) (x : TraceSet × ℕ) → set_at text ≡ Ok x → IsTableOfText x.0.table }
-    ensures in_range { (text : List ℕ) (x : TraceSet × ℕ) → set_at text ≡ Ok x → IsTableInRange x.0.table → IsInRange x.0 }
-    ensures range_by_tables { ((first : ℕ) (part : List ℕ) (t : Table) → table_at first part ≡ Ok t → IsTableInRange t) → (text : List ℕ) (x : TraceSet × ℕ) → set_at text ≡ Ok x → IsInRange x.0 }
+    ensures in_range { (text : List ℕ) (x : TraceSet × ℕ) → set_at text ≡ Ok x → IsInRange x.0 }
     ensures first_bad { (names : Names) (first : ℕ) (text : List ℕ) (e : TextFault) → lines_at names first text ≡ Err e → IsFirstBad (read_line names) (lines text) first nothing e }
 {}

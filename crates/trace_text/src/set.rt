@@ -1,6 +1,7 @@
 //! The set that a text stands for.
 
-ghost use Rattle.std.specs.Prelude.{◌≡◌, ◌<◌, ◌+◌, ◌^◌, length};
+ghost use Rattle.std.specs.Prelude.{◌≡◌, ◌<◌, ◌+◌, ◌^◌, length, IfOk};
+ghost use Rattle.trace_ops.specs.InRange.{IsInRange};
 ghost use Rattle.text_lines.specs.Lines.{lines};
 ghost use Rattle.descr_table.specs.Meaning.{nothing};
 ghost use Rattle.descr_table.specs.Reading.{table_at};
@@ -104,7 +105,8 @@ fn read_sections(alloc: Global, text: &[u8], end: u32) -> Result<TraceSet, TextF
 #[tactic(auto, unfolding(crate::specs::Sections::set_at))]
 pub fn read_set(alloc: Global, bytes: &[u8]) -> Result<(TraceSet, usize), TextFault>
     requires { 1 + length (lines bytes.now) < 2 ^ 32 }
-    ensures { Gives result (set_at bytes.now) }
+    ensures read { Gives result (set_at bytes.now) }
+    ensures in_range { IfOk result (λ found. IsInRange found.0) }
 {
     let (front, _, count) = cut(Until::Session, bytes);
     let set = read_sections(alloc, front, 1 + count)?;

@@ -4,9 +4,8 @@ use Rattle.text_lines.proofs.FirstBadLaws.{first_bad}
 use Rattle.trace_ops.specs.declared.trace.TraceSet.{TraceSet}
 use Rattle.trace_text.specs.declared.fault.TextFault.{TextFault}
 use Rattle.trace_text.specs.Draft.{nothing, read_line, lines_at}
-use Rattle.trace_text.proofs.FitDrafts.{in_range}
 use Rattle.trace_text.proofs.TableOf.{table_of_text}
-use Rattle.trace_text.proofs.RangeByTables.{range_by_tables}
+use Rattle.trace_text.proofs.RangeByTables.{set_in_range}
 use Rattle.trace_text.proofs.laws.text_laws.Goals as goal
 
 set_in : TraceSet × ℕ → Result (TraceSet × ℕ) TextFault → TraceSet × ℕ
@@ -21,10 +20,7 @@ pub returns-clause-table : goal.returns-clause-table
 returns-clause-table c = table_of_text
 
 pub returns-clause-in_range : goal.returns-clause-in_range
-returns-clause-in_range c = in_range
-
-pub returns-clause-range_by_tables : goal.returns-clause-range_by_tables
-returns-clause-range_by_tables c = range_by_tables
+returns-clause-in_range c = set_in_range
 
 pub returns-clause-first_bad : goal.returns-clause-first_bad
 unfolding lines_at

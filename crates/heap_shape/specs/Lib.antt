@@ -1,0 +1,5 @@
+pub mod Visiting
+pub mod Listing
+pub mod Roots
+pub mod Sameness
+pub mod Order

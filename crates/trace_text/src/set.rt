@@ -99,16 +99,23 @@ fn read_sections(alloc: Global, text: &[u8], end: u32) -> Result<TraceSet, TextF
     read_opened(alloc, back, 1 + count, end)
 }
 
+#[tactic(auto, unfolding(crate::specs::Sections::set_at))]
+fn read_bytes(alloc: Global, bytes: &[u8]) -> Result<(TraceSet, usize), TextFault>
+    requires { 1 + length (lines bytes.now) < 2 ^ 32 }
+    ensures { Gives result (set_at bytes.now) }
+{
+    let (front, _, count) = cut(Until::Session, bytes);
+    let set = read_sections(alloc, front, 1 + count)?;
+    Ok((set, front.len()))
+}
+
 /// The set that a text stands for, and the place of its `%session` line or the text's length; or the first refusal,
 /// in the order of the lines. On one line the refusals are tried in this order: syntax, a float, an unknown operation,
 /// an unknown descr, an unknown box, a limit. Lines are numbered from 1. What stands behind the `%session` line is not read.
-#[tactic(auto, unfolding(crate::specs::Sections::set_at))]
 pub fn read_set(alloc: Global, bytes: &[u8]) -> Result<(TraceSet, usize), TextFault>
     requires { 1 + length (lines bytes.now) < 2 ^ 32 }
     ensures read { Gives result (set_at bytes.now) }
     ensures in_range { IfOk result (λ found. IsInRange found.0) }
 {
-    let (front, _, count) = cut(Until::Session, bytes);
-    let set = read_sections(alloc, front, 1 + count)?;
-    Ok((set, front.len()))
+    read_bytes(alloc, bytes)
 }

@@ -1,7 +1,5 @@
-use Rattle.std.proofs.Common.{arith}
-use Rattle.trace_text.specs.declared.cut.Until.TheVariants.{Session}
-use Rattle.trace_text.proofs.Through.{length-lines-front}
+use Rattle.trace_text.proofs.RangeByTables.{read_in_range}
 use Rattle.trace_text.proofs.set.read_set.Goals as goal
 
-pub read_sections-requires : goal.read_sections-requires
-read_sections-requires c = omega (arith, length-lines-front Session c.args.bytes.now c.cut-count.result.0.now c.cut-count.ensures.front, c.requires)
+pub returns-clause-in_range : goal.returns-clause-in_range
+returns-clause-in_range c = read_in_range c.read_bytes.result c.args.bytes.now c.read_bytes.ensures

@@ -1,0 +1,13 @@
+pub mod Codes
+pub mod Recorded
+pub mod Placed
+pub mod Cited
+pub mod Laid
+pub mod Running
+pub mod Started
+pub mod Behaved
+pub mod Drawn
+pub mod Counting
+pub mod Stepping
+pub mod Tried
+pub mod Tested

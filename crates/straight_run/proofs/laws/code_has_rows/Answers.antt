@@ -1,0 +1,15 @@
+use Rattle.straight_run.proofs.Laid.{bodies_have_rows}
+use Rattle.straight_run.proofs.laws.code_has_rows.Goals as goal
+
+pub returns : goal.returns
+returns c = bodies_have_rows (record {
+  returns = c.piece_returns.ensures;
+  rows = c.chosen_have_rows.ensures;
+  exit_rows = c.exits_have_rows.ensures;
+  short = c.chosen_are_short.ensures;
+  stand = c.slots_stand.ensures;
+  most = c.spellings_are_short.ensures.most;
+  least = c.spellings_are_short.ensures.least;
+  one = c.one_instruction.ensures;
+  finish = c.straight_pieces_finish.ensures;
+})

@@ -1,0 +1,15 @@
+use Rattle.straight_run.proofs.Behaved.{images_are_whole}
+use Rattle.straight_run.proofs.laws.images_are_whole.Goals as goal
+
+pub returns : goal.returns
+returns c = images_are_whole (record {
+  returns = c.piece_returns.ensures;
+  rows = c.chosen_have_rows.ensures;
+  exit_rows = c.exits_have_rows.ensures;
+  short = c.chosen_are_short.ensures;
+  stand = c.slots_stand.ensures;
+  most = c.spellings_are_short.ensures.most;
+  least = c.spellings_are_short.ensures.least;
+  one = c.one_instruction.ensures;
+  finish = c.straight_pieces_finish.ensures;
+}) c.slots_are_whole.ensures

@@ -1,0 +1,5 @@
+pub mod Straight
+pub mod Layout
+pub mod Session
+pub mod Behaving
+pub mod Drafting

@@ -2,5 +2,3 @@ pub mod Selecting
 pub mod Joined
 pub mod Counting
 pub mod Running
-pub mod Words
-pub mod Refused

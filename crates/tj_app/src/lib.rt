@@ -2,6 +2,7 @@
 #![tactic(auto)]
 
 mod boxes;
+mod checking;
 mod command;
 mod ending;
 mod image_text;
@@ -14,6 +15,7 @@ mod selection;
 mod session;
 mod session_lines;
 mod tokens;
+mod words;
 
 pub use boxes::Boxes;
 pub use command::serve;
@@ -23,6 +25,7 @@ pub use reader::{ReadFault, read_program};
 pub use refusal::{Fault, fault_line};
 pub use selection::{Handed, Image, compile};
 pub use session::{Now, Observed, run};
+pub use words::{Command, command_of};
 
 #[cfg(test)]
 mod tests;

@@ -25,7 +25,7 @@ pub use reader::{ReadFault, read_program};
 pub use refusal::{Fault, fault_line};
 pub use selection::{Handed, Image, compile};
 pub use session::{Now, Observed, run};
-pub use words::{Command, command_of};
+pub use words::{Command, command_of, word_laws};
 
 #[cfg(test)]
 mod tests;

@@ -1,7 +1,7 @@
 //! The words of the program, and the command that they ask for.
-ghost use Rattle.std.specs.Prelude.{◌≡◌, ◌≢◌, ◌↔◌, [], ◌∷◌, map, IsTrue, slice_index};
+ghost use Rattle.std.specs.Prelude.{◌≡◌, ◌≢◌, ◌↔◌, ℕ, List, [], ◌∷◌, map, IsTrue, slice_index};
 ghost use Rattle.std.specs.String.{string_bytes};
-ghost use Rattle.tj_app.specs.Asking.{Reads, ReadsArena};
+ghost use Rattle.tj_app.specs.Asking.{Asks, Reads, ReadsArena};
 
 use text_lines::decimal_of;
 
@@ -86,3 +86,8 @@ fn begins_with_zero(word: &[u8]) -> bool
         [first, ..] => *first == b'0',
     }
 }
+
+/// Words ask for at most one command.
+pub fn word_laws()
+    ensures { (words : List (List ℕ)) (a b : Command) → Asks words a → Asks words b → a ≡ b }
+{}

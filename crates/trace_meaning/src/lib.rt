@@ -15,6 +15,8 @@ mod performing;
 mod run;
 mod state;
 mod steps;
+#[cfg(test)]
+mod tests;
 mod value;
 mod world;
 

@@ -7,3 +7,8 @@ pub mod Settling
 pub mod KeptCalls
 pub mod Begun
 pub mod Running
+pub mod LegRuns
+pub mod Ending
+pub mod Bridges
+pub mod Growing
+pub mod GrowingRuns

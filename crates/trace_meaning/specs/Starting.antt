@@ -1,5 +1,5 @@
 -- From where a run starts.
-use Rattle.std.specs.Prelude.{◌≡◌, ℕ, ◌<◌, List, map, length, slice_get}
+use Rattle.std.specs.Prelude.{◌≡◌, ℕ, ◌<◌, ◌≤◌, List, map, length, slice_get}
 use Rattle.std.specs.List.{All}
 use Rattle.std.specs.Option.{IsSomeAnd}
 use Rattle.trace_ops.specs.declared.trace.BoxId.{BoxId}
@@ -14,6 +14,11 @@ use Rattle.trace_meaning.specs.Values.{kind_of_value}
 use Rattle.trace_meaning.specs.Cuts.{Cuts}
 use Rattle.trace_meaning.specs.Recorded.{started}
 use Rattle.trace_meaning.specs.Standing.{Run}
+
+-- at most 256 traces, each of at most 8192 operations
+pub record IsSmall (set : TraceSet) : Type 0 where
+  pub few : length set.traces ≤ 256
+  pub short : All (λ (t : Trace). length t.ops ≤ 8192) set.traces
 
 -- an object is a prebuilt one
 abbrev pub IsPrebuiltOrNone : Table → Value → Type 0

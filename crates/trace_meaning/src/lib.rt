@@ -15,11 +15,16 @@ mod performing;
 mod run;
 mod state;
 mod steps;
+#[cfg(test)]
+mod tests;
 mod value;
 mod world;
 
 pub use call::{Answer, AnswerStore, CallEvent, Give};
-pub use laws::{ended_stays, runs_on};
+pub use laws::{
+    answers_are_counted, bridges_are_seen, ended_stays, legs_are_runs, recorded_legs_are_runs,
+    runs_on, runs_only_add,
+};
 pub use run::RecRun;
 pub use state::{RecFrame, RecState};
 pub use value::{Object, Store, Value};

@@ -3,7 +3,7 @@
 ghost use Rattle.std.specs.Prelude.{◌≡◌, ◌<◌, ◌^◌, length, IfOk, OnOk, OnErr};
 ghost use Rattle.trace_ops.specs.InRange.{IsInRange};
 ghost use Rattle.trace_ops.specs.WellFormed.{IsWellFormed};
-ghost use Rattle.trace_meaning.specs.Starting.{Starts, begun};
+ghost use Rattle.trace_meaning.specs.Starting.{Starts, IsSmall, begun};
 ghost use Rattle.trace_meaning.specs.Observed.{state_of, store_of, calls_of, bytes_of, world_of};
 ghost use Rattle.trace_meaning.specs.Standing.{stepped};
 
@@ -52,7 +52,22 @@ impl RecRun {
         requires starts { Starts checked_set.now start inputs.items }
         ensures { IfOk result (λ r. r ≡ begun checked_set.now start inputs.items answers.items cuts.items) }
     {
-        let set = checked_set.copy()?;
+        RecRun::begin(alloc, checked_set, start, inputs, answers, cuts)
+    }
+
+    // The same, of any set that is small enough.
+    pub(crate) fn begin(
+        alloc: Global,
+        small_set: &TraceSet,
+        start: u32,
+        inputs: Vec<Value>,
+        answers: Vec<Answer>,
+        cuts: Vec<(u32, u64)>,
+    ) -> Result<RecRun, AllocError>
+        requires { IsSmall small_set.now }
+        ensures { IfOk result (λ r. r ≡ begun small_set.now start inputs.items answers.items cuts.items) }
+    {
+        let set = small_set.copy()?;
         let world = World::new(alloc, &set.table, answers)?;
         let boxes = Boxes::bound_to(alloc, inputs_of_trace(&set, start), &inputs)?;
         let cursor = Cursor {

@@ -1,7 +1,5 @@
-use Rattle.std.proofs.Common.{ap, refl}
-use Rattle.trace_meaning.specs.Kept.{Kept}
-use Rattle.trace_meaning.proofs.Begun.{standing-begun}
+use Rattle.trace_meaning.proofs.Begun.{small-in_range}
 use Rattle.trace_meaning.proofs.run.RecRun.new.Goals as goal
 
-pub invariant_of-result : goal.invariant_of-result
-invariant_of-result c = standing-begun c.args.checked_set.now _ _ c.requires.in_range c.in_ok-set.ensures (ap (λ (k : Kept). k.prebuilts) c.in_ok-world.ensures) refl refl refl
+pub begin-requires : goal.begin-requires
+begin-requires c = small-in_range c.args.checked_set.now c.requires.in_range

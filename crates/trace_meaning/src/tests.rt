@@ -6,8 +6,8 @@ use super::*;
 use std::alloc::{AllocError, Global};
 use std::test::*;
 use trace_ops::{
-    Arg, ArrayRow, BoxId, CallRow, Descr, FieldRow, Kind, List, Op, OpCode, Origin, PrebuiltRow,
-    ShapeOf, SizeRow, Table, Text, Trace, TraceSet,
+    Arg, ArrayRow, BoxId, CallRow, Descr, FieldRow, Frame, Initial, Kind, List, Op, OpCode, Origin,
+    PrebuiltRow, ShapeOf, SizeRow, Table, Text, Trace, TraceSet,
 };
 
 // The numbers of what the table has.
@@ -255,6 +255,63 @@ fn finished_with(state: &RecState, word: i64) -> bool {
     }
 }
 
+// A guard with one frame, of trace L.
+fn guard(alloc: Global, code: OpCode, args: &[Arg], slots: &[Arg]) -> Result<Op, AllocError> {
+    let args = Vec::from_slice(alloc, args)?;
+    let slots = Vec::from_slice(alloc, slots)?;
+    let frame = Frame {
+        name: Text::new(b"L"),
+        pc: 0,
+        slots: List::of(slots),
+    };
+    let frames = vec![in alloc; frame]?;
+    Ok(Op {
+        code,
+        result: None,
+        args: List::of(args),
+        descr: Descr::No,
+        snapshot: List::of(frames),
+    })
+}
+
+// A loop whose guard fails on 0, and a bridge from it.
+fn with_bridge(alloc: Global) -> Result<TraceSet, AllocError> {
+    let kept = guard(alloc, OpCode::GuardTrue, &[i(0)], &[i(0)])?;
+    let mut ops = Vec::new(alloc);
+    ops.push(kept)?;
+    ops.push(finish(alloc, Arg::Const(1))?)?;
+    let first = loop_of(alloc, &[integer(0)], ops)?;
+    let sum = plain(alloc, OpCode::IntAdd, integer(1), &[i(0), Arg::Const(42)])?;
+    let mut ops = Vec::new(alloc);
+    ops.push(sum)?;
+    ops.push(finish(alloc, i(1))?)?;
+    let origin = Origin::Bridge {
+        parent: Text::new(b"L"),
+        guard: 0,
+    };
+    let bridge = trace(alloc, Text::new(b"B"), origin, &[integer(0)], ops)?;
+    let table = table_with(alloc, Vec::new(alloc))?;
+    let traces = vec![in alloc; first, bridge]?;
+    Ok(TraceSet {
+        table,
+        traces: List::of(traces),
+    })
+}
+
+fn ends_with_cut(alloc: Global, failures: u64) -> Result<RecState, AllocError> {
+    let set = with_bridge(alloc)?;
+    let mut run = begin(alloc, set, &[Value::Int(0)], Vec::new(alloc), &[(1, failures)])?;
+    run_for(&mut run, 20)?;
+    run.state().copy()
+}
+
+fn exited_at_first(state: &RecState) -> bool {
+    match state {
+        RecState::Exited { trace: 0, guard: 0, .. } => true,
+        _ => false,
+    }
+}
+
 #[test]
 fn sums_and_shifts_wrap(rt: HostRuntime) -> Result<(), AllocError> {
     let alloc = rt.alloc();
@@ -264,5 +321,15 @@ fn sums_and_shifts_wrap(rt: HostRuntime) -> Result<(), AllocError> {
     assert!(rt; finished_with(&by_sixty_four, 1));
     let by_minus_one = ends_of_two(alloc, OpCode::IntLshift, 1, -1)?;
     assert!(rt; finished_with(&by_minus_one, i64::MIN));
+    Ok(())
+}
+
+#[test]
+fn a_failure_sees_a_bridge_that_was_attached_before_it(rt: HostRuntime) -> Result<(), AllocError> {
+    let alloc = rt.alloc();
+    let before = ends_with_cut(alloc, 0)?;
+    assert!(rt; finished_with(&before, 42));
+    let behind = ends_with_cut(alloc, 1)?;
+    assert!(rt; exited_at_first(&behind));
     Ok(())
 }

@@ -300,14 +300,24 @@ fn with_bridge(alloc: Global) -> Result<TraceSet, AllocError> {
 
 fn ends_with_cut(alloc: Global, failures: u64) -> Result<RecState, AllocError> {
     let set = with_bridge(alloc)?;
-    let mut run = begin(alloc, set, &[Value::Int(0)], Vec::new(alloc), &[(1, failures)])?;
+    let mut run = begin(
+        alloc,
+        set,
+        &[Value::Int(0)],
+        Vec::new(alloc),
+        &[(1, failures)],
+    )?;
     run_for(&mut run, 20)?;
     run.state().copy()
 }
 
 fn exited_at_first(state: &RecState) -> bool {
     match state {
-        RecState::Exited { trace: 0, guard: 0, .. } => true,
+        RecState::Exited {
+            trace: 0,
+            guard: 0,
+            ..
+        } => true,
         _ => false,
     }
 }

@@ -12,3 +12,11 @@ pub mod Ending
 pub mod Bridges
 pub mod Growing
 pub mod GrowingRuns
+pub mod OfKind
+pub mod Holding
+pub mod HoldingAnswers
+pub mod HoldingOperations
+pub mod HoldingSteps
+pub mod HoldingStarts
+pub mod HoldingRuns
+pub mod Routing

@@ -14,4 +14,6 @@ pub mod Kept
 pub mod Steps
 pub mod Standing
 pub mod Starting
+pub mod Kinds
+pub mod Routes
 pub mod Laws

@@ -1,24 +1,24 @@
-//! Calls of host functions: what the host sees, whether its answer fits, and what the answer does.
+//! Calls of host functions: what the host sees, and what an answer that fits does.
 
-ghost use Rattle.std.specs.Prelude.{◌≡◌, ◌<◌, ◌^◌, ◌++◌, length, drop, slice_get, filter, Some, None, IfOk, OnErr, OnOk};
+ghost use Rattle.std.specs.Prelude.{◌≡◌, ◌<◌, ◌^◌, ◌++◌, length, drop, slice_get, None, IfOk, OnErr, OnOk};
 ghost use Rattle.std.specs.Option.{option_to_list};
 ghost use Rattle.trace_meaning.specs.Objects.{read_in as read_from};
-ghost use Rattle.trace_meaning.specs.Passing.{is_structure_of as structure_of};
 ghost use Rattle.trace_ops.specs.declared.piece.Spot.TheVariants as Spot;
-ghost use Rattle.std.specs.List.{flat_map, list_any, list_all};
-ghost use Rattle.trace_meaning.specs.Values.{references as refs_of, is_reference as is_ref};
-ghost use Rattle.trace_meaning.specs.Answers.{seen_of as seen_in, new_object, store_done as store_meant, stores_done as stores_meant, value_stored as stored_value, with_fresh, same_result as results_same, kind_given as given_kind, is_named as named, is_new as new_given, is_size as of_size, is_base as is_based, may_be_stored as storable, is_declared as declared_in, store_fits_field as fits_field, store_fits as fits_store, fits as fits_call, value_given as given_value};
+ghost use Rattle.std.specs.List.{flat_map};
+ghost use Rattle.trace_meaning.specs.Values.{references as refs_of};
+ghost use Rattle.trace_meaning.specs.Answers.{seen_of as seen_in, new_object, store_done as store_meant, stores_done as stores_meant, value_stored as stored_value, with_fresh, value_given as given_value};
 ghost use Rattle.trace_meaning.specs.Performing.{with_call, event_of as event_meant, call as called_by, call_row as called_row, called_first, function_in as function_meant, answered as answered_by};
 ghost use Rattle.trace_meaning.specs.Kept.{with_world, with_answered, allocated, IsOf};
 ghost use Rattle.trace_meaning.specs.Steps.{IsPerformed, IsAnswer};
 
+use crate::fitting::fits;
 use crate::folding::is_reference;
-use crate::objects::{is_frozen, read, zeroed};
+use crate::objects::{read, zeroed};
 use crate::performing::Done;
 use crate::world::World;
 use crate::{Answer, AnswerStore, CallEvent, Give, Object, Value};
 use std::alloc::{AllocError, Global};
-use trace_ops::{Arg, CallRow, Descr, FieldRow, Kind, List, Op, ShapeOf, Spot, Table};
+use trace_ops::{Arg, CallRow, Descr, List, Op, Spot, Table};
 
 // The references among the arguments, in order.
 fn references(alloc: Global, values: &[Value]) -> Result<Vec<Value>, AllocError>
@@ -80,166 +80,6 @@ fn seen(
         see_fields(&mut seen, table, objects, *base, reads)?;
     }
     Ok(seen)
-}
-
-fn same_result(a: Option<Kind>, b: Option<Kind>) -> bool
-    ensures { result ≡ results_same a b }
-{
-    match a {
-        None => b.is_none(),
-        Some(Kind::Int) => match b {
-            Some(Kind::Int) => true,
-            _ => false,
-        },
-        Some(Kind::Ref) => match b {
-            Some(Kind::Ref) => true,
-            _ => false,
-        },
-    }
-}
-
-// The kind of what is given, if anything is.
-fn kind_given(given: Give) -> Option<Kind>
-    ensures { result ≡ given_kind given }
-{
-    match given {
-        Give::Nothing => None,
-        Give::Int(_) => Some(Kind::Int),
-        Give::Null => Some(Kind::Ref),
-        Give::Arg(_) => Some(Kind::Ref),
-        Give::Prebuilt(_) => Some(Kind::Ref),
-        Give::New(_) => Some(Kind::Ref),
-    }
-}
-
-// Whether its number names a reference argument of so many, a prebuilt object or a size.
-fn is_named(table: &Table, references: usize, given: Give) -> bool
-    ensures { result ≡ named table.now references given }
-{
-    match given {
-        Give::Arg(k) => (k as usize) < references,
-        Give::Prebuilt(k) => (k as usize) < table.prebuilts.items().len(),
-        Give::New(k) => (k as usize) < table.sizes.items().len(),
-        _ => true,
-    }
-}
-
-fn is_new(given: Give) -> bool
-    ensures { result ≡ new_given given }
-{
-    match given {
-        Give::New(_) => true,
-        _ => false,
-    }
-}
-
-fn is_structure(size: u32, of: ShapeOf) -> bool
-    ensures { result ≡ structure_of size of }
-{
-    match of {
-        ShapeOf::Size(s) => s == size,
-        ShapeOf::Array(_) => false,
-    }
-}
-
-fn is_size(size: u32, objects: &[Object], n: u32) -> bool
-    ensures { result ≡ of_size size (slice_get objects.now n) }
-{
-    match objects.get(n as usize) {
-        None => false,
-        Some(object) => is_structure(size, object.of),
-    }
-}
-
-// Whether the field may be written in a value.
-fn is_base(table: &Table, size: u32, field: u32, objects: &[Object], base: Option<Value>) -> bool
-    ensures { result ≡ is_based table.now size field objects.now base }
-{
-    match base {
-        Some(Value::Obj(n)) => {
-            is_size(size, objects, n) && !is_frozen(table, Spot::Field(field), n)
-        }
-        _ => false,
-    }
-}
-
-// Whether what is given may be stored in a field of this kind.
-fn may_be_stored(table: &Table, references: usize, kind: Kind, given: Give) -> bool
-    ensures { result ≡ storable table.now references kind given }
-{
-    same_result(kind_given(given), Some(kind))
-        && !is_new(given)
-        && is_named(table, references, given)
-}
-
-fn is_declared(writes: &[u32], field: u32) -> bool
-    ensures { result ≡ declared_in writes.now field }
-{
-    writes.iter().any(|f| *f == field)
-}
-
-fn store_fits_field(
-    table: &Table,
-    row: &CallRow,
-    references: &[Value],
-    objects: &[Object],
-    store: AnswerStore,
-    field: FieldRow,
-) -> bool
-    ensures { result ≡ fits_field table.now row.now references.now objects.now store (Some field) }
-{
-    let base = references.get(store.arg as usize).copied();
-    may_be_stored(table, references.len(), field.kind, store.value)
-        && is_base(table, field.size, store.field, objects, base)
-        && is_declared(row.writes.items(), store.field)
-}
-
-// Whether a store is one of a value of the field's kind, into a field that the call declares.
-fn store_fits(
-    table: &Table,
-    row: &CallRow,
-    references: &[Value],
-    objects: &[Object],
-    store: AnswerStore,
-) -> bool
-    ensures { result ≡ fits_store table.now row.now references.now objects.now store }
-{
-    match table.fields.items().get(store.field as usize) {
-        None => false,
-        Some(field) => store_fits_field(table, row, references, objects, store, *field),
-    }
-}
-
-fn stores_fit(
-    table: &Table,
-    row: &CallRow,
-    references: &[Value],
-    objects: &[Object],
-    stores: &[AnswerStore],
-) -> bool
-    ensures { result ≡ list_all (fits_store table.now row.now references.now objects.now) stores.now }
-{
-    for store in stores {
-        if !store_fits(table, row, references, objects, *store) {
-            return false;
-        }
-    }
-    true
-}
-
-// Whether an answer fits a call with these reference arguments.
-fn fits(
-    table: &Table,
-    row: &CallRow,
-    references: &[Value],
-    objects: &[Object],
-    answer: &Answer,
-) -> bool
-    ensures { result ≡ fits_call table.now row.now references.now objects.now answer.now }
-{
-    same_result(kind_given(answer.gives), row.result)
-        && is_named(table, references.len(), answer.gives)
-        && stores_fit(table, row, references, objects, answer.stores.items())
 }
 
 // The value that is given; a new object has the next number.

@@ -4,6 +4,7 @@ ghost use Rattle.std.specs.Prelude.{ℕ, ◌+◌, List, length};
 ghost use Rattle.trace_meaning.specs.declared.value.Value.{Value};
 ghost use Rattle.trace_meaning.specs.World.{World};
 ghost use Rattle.trace_meaning.specs.Legs.{Program};
+ghost use Rattle.trace_meaning.specs.Kinds.{BoxesKeepKinds, PartsKeepKinds, EndsKeepKinds};
 ghost use Rattle.trace_meaning.specs.Laws.{EndedStays, RunsOn, CallsAreKept, ObjectsAreKept, NoFewerObjects, PrebuiltsStayFirst, AnswersAreCounted, MakesLeg, EndsByLeaving, LegsAreRuns, WellFormedLegsAreRuns, SeenIsBridge, SeesWhereThereIsOne};
 
 /// A run that has ended stays.
@@ -46,4 +47,13 @@ pub fn runs_only_add()
 /// A run has taken as many answers as it has calls that were answered, in order.
 pub fn answers_are_counted()
     ensures { AnswersAreCounted }
+{}
+
+/// Of a set in range and well formed, from inputs of a loop's kinds, whatever is answered and attached: each box that
+/// holds a value, and each part of an object, holds an integer where its kind is that, and else null or an object that
+/// is there. The values with which a run ends are there too, and those of a guard are of the kinds of its slots.
+pub fn boxes_keep_kinds()
+    ensures boxes { BoxesKeepKinds }
+    ensures parts { PartsKeepKinds }
+    ensures ends { EndsKeepKinds }
 {}

@@ -5,6 +5,7 @@ mod boxes;
 mod call;
 mod calling;
 mod cursor;
+mod fitting;
 mod folding;
 mod frames;
 mod laws;
@@ -12,6 +13,7 @@ mod links;
 mod objects;
 mod passing;
 mod performing;
+mod routes;
 mod run;
 mod state;
 mod steps;
@@ -22,8 +24,8 @@ mod world;
 
 pub use call::{Answer, AnswerStore, CallEvent, Give};
 pub use laws::{
-    answers_are_counted, bridges_are_seen, ended_stays, legs_are_runs, recorded_legs_are_runs,
-    runs_on, runs_only_add,
+    answers_are_counted, boxes_keep_kinds, bridges_are_seen, ended_stays, legs_are_runs,
+    recorded_legs_are_runs, runs_on, runs_only_add,
 };
 pub use run::RecRun;
 pub use state::{RecFrame, RecState};

@@ -10,6 +10,7 @@ ghost use Rattle.trace_meaning.specs.Standing.{stepped};
 use crate::boxes::Boxes;
 use crate::cursor::Cursor;
 use crate::links::inputs_of_trace;
+use crate::routes::Routes;
 use crate::steps::step;
 use crate::world::World;
 use crate::{Answer, CallEvent, RecState, Store, Value};
@@ -22,18 +23,19 @@ use trace_ops::TraceSet;
 pub struct RecRun {
     alloc: Global,
     set: TraceSet,
-    cuts: Vec<(u32, u64)>,
+    routes: Routes,
     cursor: Cursor,
 }
 
 impl Model for RecRun {
     ghost use Rattle.trace_meaning.specs.Standing.{Run, IsStanding, now_of};
+    ghost use Rattle.trace_meaning.specs.Routes.{AreRoutes};
 
     ghost Value = { Run };
 
-    ghost view = { λ r. record { set = r.set; cuts = r.cuts.items; now = now_of r.set r.cursor } };
+    ghost view = { λ r. record { set = r.set; cuts = r.routes.cuts.items; now = now_of r.set r.cursor } };
 
-    ghost invariant = { λ r. IsStanding r.set r.cursor };
+    ghost invariant = { λ r. record { standing : IsStanding r.set r.cursor; routed : AreRoutes r.set r.routes } };
 }
 
 impl RecRun {
@@ -79,10 +81,11 @@ impl RecRun {
             state: RecState::Going,
             left: Vec::new(alloc),
         };
+        let routes = Routes::new(alloc, &set, cuts)?;
         Ok(RecRun {
             alloc,
             set,
-            cuts,
+            routes,
             cursor,
         })
     }
@@ -94,12 +97,7 @@ impl RecRun {
         ensures ok { OnOk result (self.new ≡ stepped self.old) }
         ensures err { OnErr result (self.new ≡ self.old) }
     {
-        step(
-            self.alloc,
-            &self.set,
-            self.cuts.as_slice(),
-            &mut self.cursor,
-        )?;
+        step(self.alloc, &self.set, &self.routes, &mut self.cursor)?;
         Ok(())
     }
 

@@ -12,14 +12,16 @@ ghost use Rattle.trace_meaning.specs.World.{failed};
 ghost use Rattle.trace_meaning.specs.Passing.{passes as passes_meant};
 ghost use Rattle.trace_meaning.specs.Performing.{perform as performed, Gave, Done as Meant};
 ghost use Rattle.trace_meaning.specs.Steps.{IsNumbered};
+ghost use Rattle.trace_meaning.specs.Routes.{AreRoutes};
 ghost use Rattle.trace_meaning.specs.Standing.{IsStanding, turned, now_of, rec_of, settled};
 
 use crate::boxes::Boxes;
 use crate::cursor::Cursor;
 use crate::frames::{frames_with, guard_in, slots_of};
-use crate::links::{inputs_of_trace, jump_target, op_at, ops_of_trace, seen_bridge};
+use crate::links::{inputs_of_trace, op_at, ops_of_trace};
 use crate::passing::passes;
 use crate::performing::{Done, perform};
+use crate::routes::Routes;
 use crate::{RecState, Value};
 use std::alloc::{AllocError, Global};
 use trace_ops::{BoxId, List, Op, Part, TraceSet, part_of};
@@ -164,14 +166,21 @@ fn begin(
 }
 
 // The run jumps at the end of its trace.
-fn jump(alloc: Global, set: &TraceSet, c: &mut Cursor, values: &[Value]) -> Result<(), AllocError>
+fn jump(
+    alloc: Global,
+    set: &TraceSet,
+    routes: &Routes,
+    c: &mut Cursor,
+    values: &[Value],
+) -> Result<(), AllocError>
     requires standing { IsStanding set.now c.old }
+    requires routed { AreRoutes set.now routes.now }
     requires going { c.old.state ≡ RecState.Going }
     ensures kept { IsStanding set.now c.new }
     ensures ok { OnOk result (now_of set.now c.new ≡ In (target_at set.now c.old.trace) (ops_at set.now (target_at set.now c.old.trace)) (begin_at set.now (target_at set.now c.old.trace) values.now c.old.world.world)) }
     ensures err { OnErr result (now_of set.now c.new ≡ now_of set.now c.old) }
 {
-    let target = jump_target(set, c.trace);
+    let target = routes.target(c.trace);
     begin(alloc, set, c, target, values)
 }
 
@@ -224,18 +233,19 @@ fn enter_bridge(
 fn leave_by_guard(
     alloc: Global,
     set: &TraceSet,
-    cuts: &[(u32, u64)],
+    routes: &Routes,
     c: &mut Cursor,
     values: Vec<Value>,
 ) -> Result<(), AllocError>
     requires standing { IsStanding set.now c.old }
+    requires routed { AreRoutes set.now routes.now }
     requires going { c.old.state ≡ RecState.Going }
     ensures kept { IsStanding set.now c.new }
-    ensures ok { OnOk result (now_of set.now c.new ≡ enter (recorded set.now cuts.now) c.old.trace (Fails c.old.guards values.items c.old.world.world)) }
+    ensures ok { OnOk result (now_of set.now c.new ≡ enter (recorded set.now routes.now.cuts.items) c.old.trace (Fails c.old.guards values.items c.old.world.world)) }
     ensures err { OnErr result (now_of set.now c.new ≡ now_of set.now c.old) }
 {
     let failure = c.world.failures();
-    match seen_bridge(set.traces.items(), cuts, c.trace, c.guards, failure) {
+    match routes.bridge(c.trace, c.guards, failure) {
         None => exit(alloc, set, c, values),
         Some(bridge) => enter_bridge(alloc, set, c, bridge, &values),
     }
@@ -245,14 +255,15 @@ fn leave_by_guard(
 fn fail_guard(
     alloc: Global,
     set: &TraceSet,
-    cuts: &[(u32, u64)],
+    routes: &Routes,
     c: &mut Cursor,
     op: &Op,
 ) -> Result<(), AllocError>
     requires standing { IsStanding set.now c.old }
+    requires routed { AreRoutes set.now routes.now }
     requires going { c.old.state ≡ RecState.Going }
     ensures kept { IsStanding set.now c.new }
-    ensures ok { OnOk result (now_of set.now c.new ≡ settle (recorded set.now cuts.now) c.old.trace (drop (c.old.at + 1) (ops_at set.now c.old.trace)) (recorded_failure (rec_of c.old) (values_meant (rec_of c.old) (slots_meant op.now.snapshot)))) }
+    ensures ok { OnOk result (now_of set.now c.new ≡ settle (recorded set.now routes.now.cuts.items) c.old.trace (drop (c.old.at + 1) (ops_at set.now c.old.trace)) (recorded_failure (rec_of c.old) (values_meant (rec_of c.old) (slots_meant op.now.snapshot)))) }
     ensures err { OnErr result (now_of set.now c.new ≡ now_of set.now c.old) }
 {
     let slots = slots_of(alloc, op.snapshot.items())?;
@@ -261,7 +272,7 @@ fn fail_guard(
             go_wrong(set, c);
             Ok(())
         }
-        Some(values) => leave_by_guard(alloc, set, cuts, c, values),
+        Some(values) => leave_by_guard(alloc, set, routes, c, values),
     }
 }
 
@@ -285,16 +296,17 @@ fn pass_guard(set: &TraceSet, c: &mut Cursor)
 fn make_guard(
     alloc: Global,
     set: &TraceSet,
-    cuts: &[(u32, u64)],
+    routes: &Routes,
     c: &mut Cursor,
     op: &Op,
     values: &[Value],
 ) -> Result<(), AllocError>
     requires standing { IsStanding set.now c.old }
+    requires routed { AreRoutes set.now routes.now }
     requires going { c.old.state ≡ RecState.Going }
     requires within { c.old.at < length (ops_at set.now c.old.trace) }
     ensures kept { IsStanding set.now c.new }
-    ensures ok { OnOk result (now_of set.now c.new ≡ settle (recorded set.now cuts.now) c.old.trace (drop (c.old.at + 1) (ops_at set.now c.old.trace)) (recorded_guard op.now (rec_of c.old) (passes_meant op.now.code op.now.args values.now c.old.world.world))) }
+    ensures ok { OnOk result (now_of set.now c.new ≡ settle (recorded set.now routes.now.cuts.items) c.old.trace (drop (c.old.at + 1) (ops_at set.now c.old.trace)) (recorded_guard op.now (rec_of c.old) (passes_meant op.now.code op.now.args values.now c.old.world.world))) }
     ensures err { OnErr result (now_of set.now c.new ≡ now_of set.now c.old) }
 {
     let overflow = c.world.overflow();
@@ -313,7 +325,7 @@ fn make_guard(
             pass_guard(set, c);
             Ok(())
         }
-        Some(false) => fail_guard(alloc, set, cuts, c, op),
+        Some(false) => fail_guard(alloc, set, routes, c, op),
     }
 }
 
@@ -333,25 +345,26 @@ fn end(set: &TraceSet, c: &mut Cursor, values: Vec<Value>) -> Result<(), AllocEr
 fn make_op(
     alloc: Global,
     set: &TraceSet,
-    cuts: &[(u32, u64)],
+    routes: &Routes,
     c: &mut Cursor,
     op: &Op,
     values: Vec<Value>,
 ) -> Result<(), AllocError>
     requires standing { IsStanding set.now c.old }
+    requires routed { AreRoutes set.now routes.now }
     requires going { c.old.state ≡ RecState.Going }
     requires within { c.old.at < length (ops_at set.now c.old.trace) }
     requires objects { length c.old.world.world.objects < 2 ^ 31 }
     requires calls { length c.old.world.world.log < 2 ^ 31 }
     ensures kept { IsStanding set.now c.new }
-    ensures ok { OnOk result (now_of set.now c.new ≡ settle (recorded set.now cuts.now) c.old.trace (drop (c.old.at + 1) (ops_at set.now c.old.trace)) (recorded_part (part_meant op.now.code) set.now.table op.now (rec_of c.old) values.items)) }
+    ensures ok { OnOk result (now_of set.now c.new ≡ settle (recorded set.now routes.now.cuts.items) c.old.trace (drop (c.old.at + 1) (ops_at set.now c.old.trace)) (recorded_part (part_meant op.now.code) set.now.table op.now (rec_of c.old) values.items)) }
     ensures err { OnErr result (now_of set.now c.new ≡ now_of set.now c.old) }
 {
     match part_of(op.code) {
-        Part::Jump => jump(alloc, set, c, &values),
+        Part::Jump => jump(alloc, set, routes, c, &values),
         Part::Finish => end(set, c, values),
-        Part::Guard => make_guard(alloc, set, cuts, c, op, &values),
-        Part::OverflowGuard => make_guard(alloc, set, cuts, c, op, &values),
+        Part::Guard => make_guard(alloc, set, routes, c, op, &values),
+        Part::OverflowGuard => make_guard(alloc, set, routes, c, op, &values),
         Part::Plain => make_plain(alloc, set, c, op, &values),
         Part::Overflowing => make_plain(alloc, set, c, op, &values),
     }
@@ -361,17 +374,18 @@ fn make_op(
 fn make_step(
     alloc: Global,
     set: &TraceSet,
-    cuts: &[(u32, u64)],
+    routes: &Routes,
     c: &mut Cursor,
     op: &Op,
 ) -> Result<(), AllocError>
     requires standing { IsStanding set.now c.old }
+    requires routed { AreRoutes set.now routes.now }
     requires going { c.old.state ≡ RecState.Going }
     requires within { c.old.at < length (ops_at set.now c.old.trace) }
     requires objects { length c.old.world.world.objects < 2 ^ 31 }
     requires calls { length c.old.world.world.log < 2 ^ 31 }
     ensures kept { IsStanding set.now c.new }
-    ensures ok { OnOk result (now_of set.now c.new ≡ settle (recorded set.now cuts.now) c.old.trace (drop (c.old.at + 1) (ops_at set.now c.old.trace)) (step_meant set.now.table op.now (rec_of c.old))) }
+    ensures ok { OnOk result (now_of set.now c.new ≡ settle (recorded set.now routes.now.cuts.items) c.old.trace (drop (c.old.at + 1) (ops_at set.now c.old.trace)) (step_meant set.now.table op.now (rec_of c.old))) }
     ensures err { OnErr result (now_of set.now c.new ≡ now_of set.now c.old) }
 {
     match c.boxes.values_of(op.args.items())? {
@@ -379,7 +393,7 @@ fn make_step(
             go_wrong(set, c);
             Ok(())
         }
-        Some(values) => make_op(alloc, set, cuts, c, op, values),
+        Some(values) => make_op(alloc, set, routes, c, op, values),
     }
 }
 
@@ -387,15 +401,16 @@ fn make_step(
 fn step_inside(
     alloc: Global,
     set: &TraceSet,
-    cuts: &[(u32, u64)],
+    routes: &Routes,
     c: &mut Cursor,
 ) -> Result<(), AllocError>
     requires standing { IsStanding set.now c.old }
+    requires routed { AreRoutes set.now routes.now }
     requires going { c.old.state ≡ RecState.Going }
     requires objects { length c.old.world.world.objects < 2 ^ 31 }
     requires calls { length c.old.world.world.log < 2 ^ 31 }
     ensures kept { IsStanding set.now c.new }
-    ensures ok { OnOk result (now_of set.now c.new ≡ next (recorded set.now cuts.now) (In c.old.trace (drop c.old.at (ops_at set.now c.old.trace)) (rec_of c.old))) }
+    ensures ok { OnOk result (now_of set.now c.new ≡ next (recorded set.now routes.now.cuts.items) (In c.old.trace (drop c.old.at (ops_at set.now c.old.trace)) (rec_of c.old))) }
     ensures err { OnErr result (now_of set.now c.new ≡ now_of set.now c.old) }
 {
     match op_at(set, c.trace, c.at) {
@@ -404,7 +419,7 @@ fn step_inside(
             Ok(())
         }
         Some(op) => {
-            make_step(alloc, set, cuts, c, op)?;
+            make_step(alloc, set, routes, c, op)?;
             Ok(())
         }
     }
@@ -414,18 +429,19 @@ fn step_inside(
 pub fn step(
     alloc: Global,
     set: &TraceSet,
-    cuts: &[(u32, u64)],
+    routes: &Routes,
     c: &mut Cursor,
 ) -> Result<(), AllocError>
     requires standing { IsStanding set.now c.old }
+    requires routed { AreRoutes set.now routes.now }
     requires objects { length c.old.world.world.objects < 2 ^ 31 }
     requires calls { length c.old.world.world.log < 2 ^ 31 }
     ensures kept { IsStanding set.now c.new }
-    ensures ok { OnOk result (now_of set.now c.new ≡ next (recorded set.now cuts.now) (now_of set.now c.old)) }
+    ensures ok { OnOk result (now_of set.now c.new ≡ next (recorded set.now routes.now.cuts.items) (now_of set.now c.old)) }
     ensures err { OnErr result (now_of set.now c.new ≡ now_of set.now c.old) }
 {
     match c.state {
-        RecState::Going => step_inside(alloc, set, cuts, c),
+        RecState::Going => step_inside(alloc, set, routes, c),
         _ => Ok(()),
     }
 }

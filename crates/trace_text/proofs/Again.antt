@@ -160,3 +160,8 @@ unfolding from
 inputs_again names ws fs s =
     let r = snapshot names start ws fs refl refl s in
     (r.line, ap (λ o. o >>= done) r.runs ∙ rw r.is refl, ap (λ (q : Parts). q.frames) r.parts)
+
+-- brackets alone
+pub plain_inputs_again : (names : Names) (ws : List (List ℕ)) (vs : List Value) → SpellsSlots names ws vs [] → inputs_at names (codes "[" ∷ ws) ≡ Some (with_frame start vs)
+unfolding from run
+plain_inputs_again names ws vs s = ap (λ o. o >>= done) (slots names (go start place.Closed) ws [] vs refl s)

@@ -1,13 +1,12 @@
 -- What reading makes of lines is in range.
-use Rattle.std.proofs.Common.{◌≡◌, ℕ, suc, ◌+◌, ◌<◌, ◌≤◌, Bool, true, false, cond, List, [], ◌∷◌, ◌++◌, length, map, drop, Option, Some, None, Result, Ok, Err, refl, ap, subst, ◌∙◌, arith, length-append}
+use Rattle.std.proofs.Common.{◌≡◌, ℕ, suc, ◌+◌, ◌<◌, ◌≤◌, Bool, true, false, cond, List, [], ◌∷◌, ◌++◌, length, map, Option, Some, None, Result, Ok, Err, refl, ap, ◌∙◌, arith, length-append}
 use Rattle.std.specs.Prelude.{not, ◌||◌, codes, nat_lt, nat_le, is_some}
 use Rattle.std.specs.Str.{bytes_eq}
 use Rattle.std.specs.List.{All, list_any}
 use Rattle.std.proofs.lemmas.List.Elements.{All-nil, All-cons, All-append}
 use Rattle.std.proofs.lemmas.Bool.Decides.{nat_tests}
 use Rattle.text_lines.specs.Words.{words, is_plain}
-use Rattle.text_lines.specs.Lines.{lines}
-use Rattle.text_lines.specs.Reading.{first_of, is_skipped, read_lines, ok_then}
+use Rattle.text_lines.specs.Reading.{first_of, is_skipped}
 use Rattle.trace_ops.specs.declared.code.OpCode.{OpCode}
 use Rattle.trace_ops.specs.declared.trace.Frame.{Frame}
 use Rattle.trace_ops.specs.declared.trace.Op.{Op}
@@ -34,11 +33,10 @@ use Rattle.trace_text.specs.Names.{Names, names_of}
 use Rattle.trace_text.specs.Line.{op_at, inputs_at}
 use Rattle.trace_text.specs.Heading.{heading_at, is_merge}
 use Rattle.trace_text.specs.Meaning.{arg_of, frame_of, op_of, refusal, limits, is_float, has_float, any_value, is_unknown_box, has_unknown_name, is_misplaced}
-use Rattle.trace_text.specs.Draft.{nothing, unless, with_op, put_code, put_line, is_label, labelled, read_label, read_op, is_open, closed, lacks_inputs, is_box, closed_if, trace_count, begun, heading_refusal, read_heading, input_of, slots_of, put_inputs, inputs_refusal, read_values, is_ended, read_inputs, has_key, is_section, read_body, read_in, read_line, lines_at, finished}
-use Rattle.descr_table.specs.Meaning as rows
-use Rattle.descr_table.specs.Reading.{table_at}
-use Rattle.trace_text.specs.declared.cut.Until.TheVariants as until
-use Rattle.trace_text.specs.Sections.{is_alone, stops, lines_before, place_of, front, back, set_over, table_read, set_with_table, set_opened, set_of, set_at}
+use Rattle.trace_text.specs.Draft.{nothing, unless, with_op, put_code, put_line, is_label, labelled, read_label, read_op, is_open, closed, lacks_inputs, is_box, closed_if, trace_count, begun, heading_refusal, read_heading, input_of, slots_of, put_inputs, inputs_refusal, read_values, is_ended, read_inputs, has_key, is_section, read_body, read_in, read_line}
+use Rattle.trace_text.specs.Sections.{set_at}
+use Rattle.trace_text.proofs.SetWalk as walk
+use Rattle.trace_text.proofs.SetWalk.{set_keeps}
 use Rattle.trace_text.proofs.FitLines.{op_names, op_holds, slots-framed}
 
 abbrev HoldsSlots : Op → Type 0
@@ -55,7 +53,8 @@ pub record TraceFits (t : Table) (tr : Trace) : Type 0 where
   pub slots : All HoldsSlots tr.ops
   pub within : IsTraceWithin tr
 
-abbrev open_trace : Draft → Trace
+-- the trace that is being read
+abbrev pub open_trace : Draft → Trace
 open_trace d = record { name = d.name; origin = d.origin; label = d.label; inputs = d.inputs; ops = d.ops }
 
 record DraftFits (t : Table) (d : Draft) : Type 0 where
@@ -65,8 +64,7 @@ record DraftFits (t : Table) (d : Draft) : Type 0 where
 
 -- what a step gives, unless it refuses
 abbrev Good : Table → Result Draft TextFault → Type 0
-Good t (Ok d) = DraftFits t d
-Good t (Err e) = Unit {0}
+Good t r = walk.Good (DraftFits t) r
 
 unless_good : (t : Table) (n : ℕ) (d : Draft) (o : Option Refusal) → (o ≡ None → DraftFits t d) → Good t (unless n d o)
 unless_good t n d None f = f refl
@@ -74,24 +72,24 @@ unless_good t n d (Some why) f = tt
 
 -- ---- what it is not to be refused
 
-none_first : (b : Bool) (r : Refusal) (more : List (Bool × Refusal)) → first_of ((b, r) ∷ more) ≡ None → (b ≡ false) × (first_of more ≡ None)
+pub none_first : (b : Bool) (r : Refusal) (more : List (Bool × Refusal)) → first_of ((b, r) ∷ more) ≡ None → (b ≡ false) × (first_of more ≡ None)
 none_first true r more e = absurd cc
 none_first false r more e = (refl, e)
 
-not_more : (n m : ℕ) → not (nat_le n m) ≡ false → n ≤ m
+pub not_more : (n m : ℕ) → not (nat_le n m) ≡ false → n ≤ m
 not_more n m e = grind (arith, nat_tests)
 
 not_full : (n m : ℕ) → not (nat_lt n m) ≡ false → n < m
 not_full n m e = grind (arith, nat_tests)
 
-both_not : (a b : Bool) → (a || b) ≡ false → (a ≡ false) × (b ≡ false)
+pub both_not : (a b : Bool) → (a || b) ≡ false → (a ≡ false) × (b ≡ false)
 both_not true b e = absurd cc
 both_not false b e = (refl, e)
 
-record Passes (others : ℕ) (frames : List Slots) : Type 0 where
-  operations : others < 8192
-  frames_few : length frames ≤ 32
-  slots_few : list_any (λ (f : Slots). not (nat_le (length f.slots) 256)) frames ≡ false
+pub record Passes (others : ℕ) (frames : List Slots) : Type 0 where
+  pub operations : others < 8192
+  pub frames_few : length frames ≤ 32
+  pub slots_few : list_any (λ (f : Slots). not (nat_le (length f.slots) 256)) frames ≡ false
 
 passes_limits : (others : ℕ) (frames : List Slots) → first_of (limits others frames) ≡ None → Passes others frames
 passes_limits others frames e =
@@ -102,7 +100,7 @@ passes_limits others frames e =
     let c = none_first (list_any (λ (f : Slots). not (nat_le (length f.slots) 256)) frames) (Limit what.Slots 257) [] b.1 in
     record { operations = not_full others 8192 a.0; frames_few = not_more (length frames) 32 b.0; slots_few = c.0 }
 
-passes : (names : Names) (seen : List BoxId) (others : ℕ) (l : Line) → refusal names seen others l ≡ None → Passes others l.frames
+pub passes : (names : Names) (seen : List BoxId) (others : ℕ) (l : Line) → refusal names seen others l ≡ None → Passes others l.frames
 unfolding refusal
 passes names seen others l e =
     let last : List (Bool × Refusal) = limits others l.frames in
@@ -119,7 +117,7 @@ passes names seen others l e =
 
 -- ---- an operation
 
-length-map : {X Y : Type 0} (f : X → Y) (xs : List X) → length (map f xs) ≡ length xs
+pub length-map : {X Y : Type 0} (f : X → Y) (xs : List X) → length (map f xs) ≡ length xs
 length-map f [] = refl
 length-map f (x ∷ xs) = ap suc (length-map f xs)
 
@@ -213,7 +211,7 @@ heading_good t n d (Some x) h = unless_good t n (begun x (closed_if d)) (heading
 
 -- ---- inputs
 
-inputs_count : (o : Origin) (vs : List Value) → inputs_refusal o vs ≡ None → length vs ≤ most_inputs o
+pub inputs_count : (o : Origin) (vs : List Value) → inputs_refusal o vs ≡ None → length vs ≤ most_inputs o
 inputs_count o vs e =
     let last : List (Bool × Refusal) = (not (nat_le (length vs) (most_inputs o)), Limit what.Inputs (most_inputs o + 1)) ∷ [] in
     let floats : List (Bool × Refusal) = (list_any is_float vs, Float) ∷ last in
@@ -272,15 +270,6 @@ line_good t n line d h =
       | false ↦ tt
     ]
 
-then_good : (t : Table) (r : Result Draft TextFault) (f : Draft → Result Draft TextFault) → Good t r → ((d : Draft) → DraftFits t d → Good t (f d)) → Good t (ok_then r f)
-then_good t (Ok d) f h g = g d h
-then_good t (Err e) f h g = tt
-
-lines_good : (t : Table) (n : ℕ) (ls : List (List ℕ)) (d : Draft) → DraftFits t d → Good t (read_lines (read_line (names_of t)) n ls d)
-unfolding read_lines
-lines_good t n [] d h = h
-lines_good t n (l ∷ ls) d h = then_good t (read_line (names_of t) n l d) (λ made. read_lines (read_line (names_of t)) (suc n) ls made) (line_good t n l d h) (λ made g. lines_good t (suc n) ls made g)
-
 nothing_fits : (t : Table) → DraftFits t nothing
 nothing_fits t = record {
   done = All-nil (TraceFits t);
@@ -292,71 +281,26 @@ nothing_fits t = record {
   few = omega arith;
 }
 
-text_good : (t : Table) (n : ℕ) (text : List ℕ) → Good t (lines_at (names_of t) n text)
-unfolding lines_at
-text_good t n text = lines_good t n (lines text) nothing (nothing_fits t)
-
 -- ---- the set
 
-pub record SetFits (set : TraceSet) : Type 0 where
-  pub traces : All (TraceFits set.table) set.traces
-  pub few : length set.traces ≤ 256
-
-abbrev pub GoodSet : Result TraceSet TextFault → Type 0
-GoodSet (Ok set) = SetFits set
-GoodSet (Err e) = Unit {0}
+abbrev pub TracesFit : Table → List Trace → Type 0
+TracesFit t traces = All (TraceFits t) traces × (length traces ≤ 256)
 
 closed_few : (d : Draft) (b : Bool) → length d.done < 256 → length (cond b (closed d) d).done ≤ 256
 closed_few d true lt = omega (arith, lt, length-append d.done (open_trace d ∷ []))
 closed_few d false lt = omega (arith, lt)
 
-over_by : (t : Table) (end : ℕ) (r : Result Draft TextFault) → Good t r → GoodSet (ok_then (ok_then r (finished end)) (λ traces. Ok (record { table = t; traces = traces })))
-over_by t end (Err e) h = tt
-over_by t end (Ok d) h =
-    elim (lacks_inputs d.phase) as (λ b. GoodSet (ok_then (cond b (Err (fault.Syntax end)) (Ok (closed_if d).done)) (λ traces. Ok (record { table = t; traces = traces })))) [
-      | true ↦ tt
-      | false ↦ record { traces = closed_done t d (is_open d.phase) h; few = closed_few d (is_open d.phase) h.few }
-    ]
-
-over_good : (t : Table) (end n : ℕ) (text : List ℕ) → GoodSet (set_over t end n text)
-over_good t end n text = over_by t end (lines_at (names_of t) n text) (text_good t n text)
-
-then_set : (r : Result Table TextFault) (f : Table → Result TraceSet TextFault) → ((t : Table) → GoodSet (f t)) → GoodSet (ok_then r f)
-then_set (Ok t) f g = g t
-then_set (Err e) f g = tt
-
-table_good : (end n : ℕ) (text : List ℕ) → GoodSet (set_with_table end n text)
-table_good end n text = then_set (table_read (table_at n (front until.Section text))) (λ t. set_over t end (n + lines_before (stops until.Section) text) (back until.Section text)) (λ t. over_good t end (n + lines_before (stops until.Section) text) (back until.Section text))
-
-opened_good : (end n : ℕ) (text : List ℕ) (ls : List (List ℕ)) → GoodSet (set_opened end n text ls)
-opened_good end n text [] = over_good rows.nothing end n text
-opened_good end n text (l ∷ ls) =
-    elim (is_alone (codes "%table") (words l)) as (λ b. GoodSet (cond b (set_with_table end (n + 1) (drop (length l + 1) text)) (set_over rows.nothing end n text))) [
-      | true ↦ table_good end (n + 1) (drop (length l + 1) text)
-      | false ↦ over_good rows.nothing end n text
-    ]
-
-with_place : (r : Result TraceSet TextFault) (place : ℕ) (x : TraceSet × ℕ) → GoodSet r → ok_then r (λ set. Ok (set, place)) ≡ Ok x → SetFits x.0
-with_place (Err e) place x h is = absurd cc
-with_place (Ok set) place x h is =
-    let pick : Result (TraceSet × ℕ) TextFault → TraceSet = λ r. elim r [ Ok y ↦ y.0 | Err e ↦ set ] in
-    subst SetFits (ap pick is) h
-
--- what a text stands for, but for its table
-pub set_fits : (text : List ℕ) (x : TraceSet × ℕ) → set_at text ≡ Ok x → SetFits x.0
-unfolding set_at
-set_fits text x e =
-    let part : List ℕ = front until.Session text in
-    let said : List ℕ = back until.Said part in
-    with_place (set_of (1 + lines_before (stops until.Session) text) part) (place_of (stops until.Session) text) x (opened_good (1 + lines_before (stops until.Session) text) (1 + lines_before (stops until.Said) part) said (lines said)) e
+-- the traces of a set that a text stands for
+pub set_fits : (text : List ℕ) (x : TraceSet × ℕ) → set_at text ≡ Ok x → TracesFit x.0.table x.0.traces
+set_fits text x e = set_keeps DraftFits TracesFit (λ t. record { begins = nothing_fits t; line = line_good t; ends = λ d h. (closed_done t d (is_open d.phase) h, closed_few d (is_open d.phase) h.few) }) text x e
 
 pub in_range : (text : List ℕ) (x : TraceSet × ℕ) → set_at text ≡ Ok x → IsTableInRange x.0.table → IsInRange x.0
 in_range text x e table =
-    let h : SetFits x.0 = set_fits text x e in
+    let h = set_fits text x e in
     record {
       table = table;
-      operations_name_rows = λ k d lt. (h.traces k d lt).names;
-      slots_hold_values = λ k d lt. (h.traces k d lt).slots;
-      traces_within = λ k d lt. (h.traces k d lt).within;
-      few_traces = h.few;
+      operations_name_rows = λ k d lt. (h.0 k d lt).names;
+      slots_hold_values = λ k d lt. (h.0 k d lt).slots;
+      traces_within = λ k d lt. (h.0 k d lt).within;
+      few_traces = h.1;
     }

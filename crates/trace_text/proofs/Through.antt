@@ -1,5 +1,5 @@
 -- What a part answers, through what is done with it.
-use Rattle.std.proofs.Common.{◌≡◌, ℕ, ◌≤◌, zero, suc, true, false, cond, eqb, List, [], ◌∷◌, length, take, Result, Ok, ap, subst, arith}
+use Rattle.std.proofs.Common.{◌≡◌, ℕ, ◌+◌, ◌≤◌, zero, suc, true, false, cond, eqb, List, [], ◌∷◌, length, take, Result, Ok, None, ap, subst, arith}
 use Rattle.text_lines.specs.Reading.{ok_then}
 use Rattle.text_lines.specs.Lines.{lines, in_front}
 use Rattle.trace_ops.specs.declared.table.Table.{Table}
@@ -12,7 +12,8 @@ use Rattle.trace_text.specs.Faults.{Fails, Gives, table_fault}
 use Rattle.trace_ops.specs.declared.trace.TraceSet.{TraceSet}
 use Rattle.descr_table.specs.Meaning.{nothing}
 use Rattle.trace_text.specs.declared.cut.Until.{Until}
-use Rattle.trace_text.specs.Sections.{table_read, front, stops, place_of, set_over, set_opened}
+use Rattle.trace_text.specs.declared.cut.Until.TheVariants as until
+use Rattle.trace_text.specs.Sections.{table_read, front, back, stops, place_of, lines_before, set_over, set_opened, part_behind, session_part}
 use Rattle.trace_text.proofs.Cuts.{no_lines}
 
 -- a failure stays one, whatever would follow
@@ -64,3 +65,8 @@ pub opened_empty : (t : Table) (end n : ℕ) (text : List ℕ) (answer : Result 
 opened_empty t end n text answer e none h =
     let is : lines text ≡ [] = no_lines text none in
     rw is (subst (λ x. Gives answer (set_over x end n text)) e h)
+
+-- where nothing stands from the session's line on, there is no session
+pub part_of_nothing : (text b : List ℕ) → b ≡ back until.Session text → length b ≡ 0 → session_part text ≡ None
+part_of_nothing text b e none =
+    ap (part_behind (1 + lines_before (stops until.Session) text) (back until.Session text)) (no_lines (back until.Session text) (subst (λ x. length x ≡ 0) e none))

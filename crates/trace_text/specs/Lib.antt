@@ -9,3 +9,4 @@ pub mod Draft
 pub mod Sections
 pub mod Writing
 pub mod Spelling
+pub mod Constants

@@ -1,5 +1,5 @@
 -- The sections of a text, and the set that it stands for.
-use Rattle.std.specs.Prelude.{◌≡◌, ◌⊎◌, ℕ, ◌+◌, min, Bool, false, not, ◌&&◌, Result, Ok, Err, List, [], ◌∷◌, length, take, drop, codes, if◌then◌else◌}
+use Rattle.std.specs.Prelude.{◌≡◌, ◌⊎◌, ℕ, ◌+◌, min, Bool, false, not, ◌&&◌, Option, Some, None, Result, Ok, Err, List, [], ◌∷◌, length, take, drop, codes, if◌then◌else◌}
 use Rattle.std.specs.Str.{bytes_eq}
 use Rattle.std.specs.List.{position_or_len}
 use Rattle.text_lines.specs.Words.{words, is_plain}
@@ -82,3 +82,14 @@ set_at text = ok_then (set_of (1 + lines_before (stops until.Session) text) (fro
 -- there is no table, or lines of the text stand for it
 abbrev pub IsTableOfText : Table → Type 0
 IsTableOfText t = (t ≡ nothing) ⊎ ((first : ℕ) × (part : List ℕ) × (table_at first part ≡ Ok t))
+
+-- ---- the session
+
+-- what stands behind the first of these lines, whose number is n
+abbrev pub part_behind : ℕ → List ℕ → List (List ℕ) → Option (List ℕ × ℕ)
+part_behind n text [] = None
+part_behind n text (l ∷ ls) = Some (drop (length l + 1) text, n + 1)
+
+-- the lines behind the session's line, where there is one, and the number of the first
+abbrev pub session_part : List ℕ → Option (List ℕ × ℕ)
+session_part text = part_behind (1 + lines_before (stops until.Session) text) (back until.Session text) (lines (back until.Session text))

@@ -13,6 +13,7 @@ ghost use Rattle.trace_text.specs.Names.{Names};
 ghost use Rattle.trace_text.specs.Line.{op_at, inputs_at};
 ghost use Rattle.trace_text.specs.Heading.{heading_at};
 ghost use Rattle.trace_text.specs.Spelling.{Parts, parts_of, SpellsLine, SpellsSnapshot, SpellsHeading};
+ghost use Rattle.trace_text.specs.Constants.{HasWords};
 ghost use Rattle.trace_text.specs.Draft.{nothing, read_line, lines_at};
 ghost use Rattle.trace_text.specs.Sections.{set_at, IsTableOfText};
 
@@ -30,11 +31,12 @@ pub fn opening_laws()
     ensures heading_spelled { (ws : List (List ℕ)) (h : Heading) → SpellsHeading ws h → heading_at ws ≡ Some h }
 {}
 
-/// A text stands for at most one set. Its table is the one that lines of the text stand for, or empty, and the set is in
-/// range. A refusal of the lines of traces is that of the first bad line: the lines in front of it are read.
+/// A text stands for at most one set. Its table is the one that lines of the text stand for, or empty, the set is in
+/// range, and its constants are words. A refusal of the lines of traces is that of the first bad line: the lines in front of it are read.
 pub fn text_laws()
     ensures one_set { (text : List ℕ) (a b : TraceSet × ℕ) → set_at text ≡ Ok a → set_at text ≡ Ok b → a ≡ b }
     ensures table { (text : List ℕ) (x : TraceSet × ℕ) → set_at text ≡ Ok x → IsTableOfText x.0.table }
     ensures in_range { (text : List ℕ) (x : TraceSet × ℕ) → set_at text ≡ Ok x → IsInRange x.0 }
+    ensures words { (text : List ℕ) (x : TraceSet × ℕ) → set_at text ≡ Ok x → HasWords x.0 }
     ensures first_bad { (names : Names) (first : ℕ) (text : List ℕ) (e : TextFault) → lines_at names first text ≡ Err e → IsFirstBad (read_line names) (lines text) first nothing e }
 {}

@@ -12,12 +12,14 @@ mod line;
 mod meaning;
 mod reading;
 mod refusal;
+mod session;
 mod set;
 mod value;
 mod writing;
 
 pub use fault::{Refusal, TextFault};
 pub use laws::{line_laws, opening_laws, text_laws};
+pub use session::session_part;
 pub use set::read_set;
 pub use writing::write_set;
 

@@ -1,9 +1,10 @@
 //! The lines that write a set.
 
-ghost use Rattle.std.specs.Prelude.{◌≡◌, ◌++◌, ◌∷◌, [], pos, OnOk, IfOk, nat_lt, length};
+ghost use Rattle.std.specs.Prelude.{◌≡◌, ◌++◌, ◌∷◌, [], ℕ, pos, List, Ok, OnOk, IfOk, nat_lt, length};
 ghost use Rattle.std.specs.List.{flat_map};
 ghost use Rattle.std.specs.Fmt.{signed_decimal};
 ghost use Rattle.descr_table.specs.Writing.{size_name, field_name, array_name, prebuilt_name};
+ghost use Rattle.trace_text.specs.Sections.{set_at};
 ghost use Rattle.trace_text.specs.Writing.{vtable_name, call_name, function_name, letter, box_text, class_text, object_text, arg_text, more_args, args_text, more_boxes, boxes_text, comma_if, cited_text, descr_text, frame_text, snapshot_text, made_text, guard_text, origin_text, called_text, op_line, inputs_line, label_line, heading_line, trace_lines, set_text};
 
 use descr_table::write_table;
@@ -375,9 +376,10 @@ fn put_traces(out: &mut Vec<u8>, table: &Table, traces: &[Trace]) -> Result<(), 
 }
 
 /// The text of a set: the table behind `%table`, then each trace behind its heading. Each frame is written with its name
-/// and its pc.
+/// and its pc. A set that some text stands for is what its own text stands for, without a session.
 pub fn write_set(alloc: Global, set: &TraceSet) -> Result<Vec<u8>, AllocError>
-    ensures { IfOk result (λ v. v.items ≡ set_text set.now) }
+    ensures text { IfOk result (λ v. v.items ≡ set_text set.now) }
+    ensures read_back { IfOk result (λ v. (text : List ℕ) (place : ℕ) → set_at text ≡ Ok (set.now, place) → set_at v.items ≡ Ok (set.now, length v.items)) }
 {
     let mut out = Vec::new(alloc);
     out.extend_from_slice(b"%table\n")?;

@@ -6,6 +6,7 @@ use Rattle.trace_text.specs.declared.fault.TextFault.{TextFault}
 use Rattle.trace_text.specs.Draft.{nothing, read_line, lines_at}
 use Rattle.trace_text.proofs.TableOf.{table_of_text}
 use Rattle.trace_text.proofs.RangeByTables.{set_in_range}
+use Rattle.trace_text.proofs.WordsOfSets.{words_read}
 use Rattle.trace_text.proofs.laws.text_laws.Goals as goal
 
 set_in : TraceSet × ℕ → Result (TraceSet × ℕ) TextFault → TraceSet × ℕ
@@ -25,3 +26,6 @@ returns-clause-in_range c = set_in_range
 pub returns-clause-first_bad : goal.returns-clause-first_bad
 unfolding lines_at
 returns-clause-first_bad c = λ names first text e h. first_bad (read_line names) (lines text) first nothing e h
+
+pub returns-clause-words : goal.returns-clause-words
+returns-clause-words c = words_read

@@ -1,0 +1,10 @@
+use Rattle.std.proofs.Common.{rules, ◌≡◌, ℕ, List, length, Ok, subst, sym}
+use Rattle.trace_text.specs.Sections.{set_at}
+use Rattle.trace_text.specs.Writing.{set_text}
+use Rattle.trace_text.proofs.RoundTrip.{set_back}
+use Rattle.trace_text.proofs.writing.write_set.Goals as goal
+
+pub returns-clause-read_back : goal.returns-clause-read_back
+returns-clause-read_back c =
+    let e : c.put_traces.new.out.items ≡ set_text c.args.set.now = search rules in
+    λ text place h. subst (λ (written : List ℕ). set_at written ≡ Ok (c.args.set.now, length written)) (sym e) (set_back text (c.args.set.now, place) h)

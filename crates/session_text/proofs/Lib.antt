@@ -1,0 +1,14 @@
+pub mod Steps
+pub mod Binds
+pub mod Firsts
+pub mod FitStart
+pub mod FitForm
+pub mod FitLine
+pub mod RunsOut
+pub mod Put
+pub mod Spelled
+pub mod SpelledLine
+pub mod ReadStart
+pub mod ReadAnswers
+pub mod ReadLine
+pub mod LineByLine

@@ -1,0 +1,6 @@
+use Rattle.std.proofs.Common.{◌≡◌, drop, map}
+use Rattle.session_text.specs.Names.{firsts_from, loop_name}
+use Rattle.session_text.proofs.lexicon.add_loops.Given as goal
+
+abbrev pub invariant-loop-trace : goal.invariant-loop-trace
+invariant-loop-trace l = firsts_from l.k (map loop_name (drop l.trace-index l.traces)) l.entries.entries ≡ firsts_from 0 (map loop_name l.traces) l.fn.entries.entries

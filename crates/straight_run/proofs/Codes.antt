@@ -4,10 +4,11 @@ use Rattle.std.specs.Option.{option_map}
 use Rattle.trace_ops.specs.declared.code.OpCode.{OpCode}
 use Rattle.trace_ops.specs.declared.code.OpCode.TheVariants as code
 use Rattle.trace_ops.specs.declared.facts.Part.TheVariants as part
+use Rattle.trace_ops.specs.declared.trace.Kind.TheVariants.{Int}
 use Rattle.trace_ops.specs.declared.trace.Arg.{Arg}
 use Rattle.trace_ops.specs.declared.trace.Descr.{Descr}
 use Rattle.trace_ops.specs.declared.table.Table.{Table}
-use Rattle.trace_ops.specs.Facts.{part_of}
+use Rattle.trace_ops.specs.Facts.{part_of, gives_of}
 use Rattle.trace_ops.specs.Folds.{integer_arity}
 use Rattle.trace_meaning.specs.declared.value.Value.{Value}
 use Rattle.trace_meaning.specs.declared.value.Value.TheVariants as v
@@ -132,3 +133,62 @@ is_plain code.GuardOverflow n e = absurd cc
 is_plain code.GuardNoException n e = absurd cc
 is_plain code.Jump n e = absurd cc
 is_plain code.Finish n e = absurd cc
+
+-- and gives an integer
+pub gives_integer : (operation : OpCode) (n : ℕ) → integer_arity operation ≡ Some n → gives_of operation ≡ Some Int
+gives_integer code.IntAdd n e = refl
+gives_integer code.IntSub n e = refl
+gives_integer code.IntMul n e = refl
+gives_integer code.IntAnd n e = refl
+gives_integer code.IntOr n e = refl
+gives_integer code.IntXor n e = refl
+gives_integer code.IntLshift n e = refl
+gives_integer code.IntRshift n e = refl
+gives_integer code.UintRshift n e = refl
+gives_integer code.IntLt n e = refl
+gives_integer code.IntLe n e = refl
+gives_integer code.IntEq n e = refl
+gives_integer code.IntNe n e = refl
+gives_integer code.IntGt n e = refl
+gives_integer code.IntGe n e = refl
+gives_integer code.UintLt n e = refl
+gives_integer code.UintLe n e = refl
+gives_integer code.UintGt n e = refl
+gives_integer code.UintGe n e = refl
+gives_integer code.IntIsZero n e = refl
+gives_integer code.IntIsTrue n e = refl
+gives_integer code.IntNeg n e = refl
+gives_integer code.IntInvert n e = refl
+gives_integer code.IntForceGeZero n e = refl
+gives_integer code.SameAsI n e = refl
+gives_integer code.SameAsR n e = absurd cc
+gives_integer code.PtrEq n e = absurd cc
+gives_integer code.PtrNe n e = absurd cc
+gives_integer code.IntAddOvf n e = absurd cc
+gives_integer code.IntSubOvf n e = absurd cc
+gives_integer code.IntMulOvf n e = absurd cc
+gives_integer code.GetfieldGcI n e = absurd cc
+gives_integer code.GetfieldGcR n e = absurd cc
+gives_integer code.SetfieldGc n e = absurd cc
+gives_integer code.GetarrayitemGcI n e = absurd cc
+gives_integer code.GetarrayitemGcR n e = absurd cc
+gives_integer code.SetarrayitemGc n e = absurd cc
+gives_integer code.ArraylenGc n e = absurd cc
+gives_integer code.New n e = absurd cc
+gives_integer code.NewWithVtable n e = absurd cc
+gives_integer code.NewArrayClear n e = absurd cc
+gives_integer code.CallI n e = absurd cc
+gives_integer code.CallR n e = absurd cc
+gives_integer code.CallN n e = absurd cc
+gives_integer code.GuardTrue n e = absurd cc
+gives_integer code.GuardFalse n e = absurd cc
+gives_integer code.GuardValue n e = absurd cc
+gives_integer code.GuardNonnull n e = absurd cc
+gives_integer code.GuardIsnull n e = absurd cc
+gives_integer code.GuardClass n e = absurd cc
+gives_integer code.GuardNonnullClass n e = absurd cc
+gives_integer code.GuardNoOverflow n e = absurd cc
+gives_integer code.GuardOverflow n e = absurd cc
+gives_integer code.GuardNoException n e = absurd cc
+gives_integer code.Jump n e = absurd cc
+gives_integer code.Finish n e = absurd cc

@@ -1,19 +1,25 @@
--- The code of a straight trace stands as it is laid out.
-use Rattle.std.proofs.Common.{◌≡◌, ℕ, ◌+◌, ◌-◌, ◌%◌, ◌^◌, ◌<◌, ◌≤◌, ℤ, pos, List, [], ◌∷◌, ◌++◌, length, refl, sym, ap, subst, ◌∙◌, arith, append_assoc, append-nil}
-use Rattle.std.specs.Prelude.{◌+ℤ◌, neg_ℤ, FitsSigned}
+-- The code of straight loops stands as it is laid out.
+use Rattle.std.proofs.Common.{◌≡◌, ℕ, ◌+◌, ◌-◌, ◌*◌, ◌%◌, ◌^◌, ◌<◌, ◌≤◌, Bool, ℤ, pos, Some, List, [], ◌∷◌, ◌++◌, length, take, drop, refl, sym, ap, subst, ◌∙◌, arith, append_assoc, if◌then◌else◌}
+use Rattle.std.specs.Prelude.{◌+ℤ◌, neg_ℤ, FitsSigned, slice_get}
 use Rattle.std.specs.Int.{w32, w64, int_wrap, cast_signed}
+use Rattle.std.specs.List.{All}
 use Rattle.std.specs.Option.{option_to_list}
+use Rattle.std.proofs.lemmas.Bool.{lt-ltb}
 use Rattle.std.proofs.lemmas.Int.{ints, of_z-to_z}
-use Rattle.std.proofs.lemmas.List.{length-append}
+use Rattle.std.proofs.lemmas.List.{length-append, length-take-le, take-append-drop}
+use Rattle.std.proofs.lemmas.List.Elements.{All-head, All-tail}
+use Rattle.std.proofs.lemmas.Option.{slice_get_within, get_or_from_slice_get}
 use Rattle.trace_ops.specs.declared.trace.BoxId.{BoxId}
 use Rattle.trace_ops.specs.declared.trace.Op.{Op}
 use Rattle.trace_ops.specs.declared.trace.Trace.{Trace}
-use Rattle.guard_exit.specs.Codes.{stub_code, common_code}
+use Rattle.guard_exit.specs.Codes.{register, stub_code, common_code}
 use Rattle.x64_encode.specs.declared.instr.Instr.{Instr}
+use Rattle.x64_encode.specs.declared.instr.Instr.TheVariants.{MovImm}
+use Rattle.x64_encode.specs.Fields.{rex, modrm, imm32, imm64}
 use Rattle.x64_encode.specs.Form.{spelling}
 use Rattle.x64_machine.specs.Words.{wrap, unsigned}
 use Rattle.x64_machine.specs.State.{target}
-use Rattle.asm_select.specs.Slots.{Slot, Put, Leave, Go, puts, instr_of, instrs_of, size_of, sizes_of, bytes_of, unset, HaveRows, Lists}
+use Rattle.asm_select.specs.Slots.{Slot, Put, Leave, Go, puts, instr_of, size_of, sizes_of, bytes_of, unset, HaveRows, Lists}
 use Rattle.asm_select.specs.Valued.{MayHold}
 use Rattle.asm_select.specs.Chosen.{Where, all_code}
 use Rattle.asm_select.specs.Chosen as chosen
@@ -21,13 +27,14 @@ use Rattle.asm_select.specs.Given.{where_in, AreIn}
 use Rattle.asm_select.specs.Exited.{AllLead, IsLaidOut}
 use Rattle.asm_select.specs.Laid.{AreNear, SlotsStand}
 use Rattle.straight_run.specs.Straight.{IsStraightFrom, piece_op, piece_ops}
-use Rattle.straight_run.specs.Layout.{IsStraight, places_of, body_of, way_back, whole_of, BodiesHaveRows}
+use Rattle.straight_run.specs.Layout.{IsStraight, IsStraightLoop, places_of, body_of, way_back, stub_bytes, stub_behind, loop_code, loops_code, whole_of, BodiesHaveRows}
 use Rattle.straight_run.proofs.Cited.{Cited}
+use Rattle.straight_run.proofs.Drawn.{front_of}
 use Rattle.straight_run.proofs.Placed.{places_may, have_words, piece_weight, places_length, piece_straight, are_in}
 
 -- ---- sizes
 
-sizes-append : (xs ys : List Slot) → sizes_of (xs ++ ys) ≡ sizes_of xs + sizes_of ys
+pub sizes-append : (xs ys : List Slot) → sizes_of (xs ++ ys) ≡ sizes_of xs + sizes_of ys
 sizes-append [] ys = omega arith
 sizes-append (x ∷ xs) ys = omega (arith, sizes-append xs ys)
 
@@ -36,7 +43,7 @@ size_is (Put i) = refl
 size_is (Leave cond e) = refl
 size_is (Go e) = refl
 
-length-bytes : (xs : List Slot) → length (bytes_of unset xs) ≡ sizes_of xs
+pub length-bytes : (xs : List Slot) → length (bytes_of unset xs) ≡ sizes_of xs
 length-bytes [] = refl
 length-bytes (x ∷ xs) = length-append (spelling (instr_of unset x)) (bytes_of unset xs) ∙ omega (arith, size_is x, length-bytes xs)
 
@@ -89,29 +96,13 @@ leads at k p q boxes (op ∷ next ∷ more) h e lt =
     let on : p + sizes_of (puts body ++ []) + sizes_of code ≡ q = omega (arith, e, sizes-append (puts body ++ []) code) in
     lead_on (λ j. q) p body code (leads at (k + 1) (p + sizes_of (puts body ++ [])) q after (next ∷ more) h.1 on lt)
 
--- ---- the parts of the code
+-- ---- rows
 
-rows_append : (xs ys : List Slot) → HaveRows unset xs → HaveRows unset ys → HaveRows unset (xs ++ ys)
+pub rows_append : (xs ys : List Slot) → HaveRows unset xs → HaveRows unset ys → HaveRows unset (xs ++ ys)
 rows_append [] ys h k = k
 rows_append (x ∷ xs) ys h k = (h.0, rows_append xs ys h.1 k)
 
-parts_stand : SlotsStand → (c b s : List Slot) → HaveRows unset (c ++ (b ++ s)) → Lists unset (bytes_of unset (c ++ (b ++ s))) 0 c × Lists unset (bytes_of unset (c ++ (b ++ s))) (sizes_of c) b × Lists unset (bytes_of unset (c ++ (b ++ s))) (sizes_of c + sizes_of b) s
-parts_stand stand c b s rows =
-    let shape : (c ++ b) ++ (s ++ []) ≡ c ++ (b ++ s) = ap (λ (l : List Slot). (c ++ b) ++ l) (append-nil s) ∙ append_assoc c b s in
-    let last : Lists unset (bytes_of unset ((c ++ b) ++ (s ++ []))) (sizes_of (c ++ b)) s = stand unset (c ++ b) s [] (subst (HaveRows unset) (sym shape) rows) in (
-      stand unset [] c (b ++ s) rows,
-      stand unset c b s rows,
-      subst (λ (k : ℕ). Lists unset (bytes_of unset (c ++ (b ++ s))) k s) (sizes-append c b) (subst (λ (l : List Slot). Lists unset (bytes_of unset l) (sizes_of (c ++ b)) s) shape last),
-    )
-
-sizes_are : (c b s : List Slot) → length (bytes_of unset (c ++ (b ++ s))) ≡ sizes_of c + (sizes_of b + sizes_of s)
-sizes_are c b s = length-bytes (c ++ (b ++ s)) ∙ sizes-append c (b ++ s) ∙ ap (λ (n : ℕ). sizes_of c + n) (sizes-append b s)
-
-stub_size : (to : ℤ) → sizes_of (puts (stub_code to 0)) ≡ sizes_of (puts (stub_code (pos 0) 0))
-stub_size to = refl
-
-stub_small : sizes_of (puts (stub_code (pos 0) 0)) ≤ 64
-stub_small = omega arith
+-- ---- stubs
 
 pub common_small : sizes_of (puts common_code) ≤ 64
 common_small = omega arith
@@ -119,15 +110,106 @@ common_small = omega arith
 pub common_large : 20 ≤ sizes_of (puts common_code)
 common_large = omega arith
 
-back_fits : (n : ℕ) → n < 2 ^ 30 → FitsSigned w32 (neg_ℤ (pos n))
-back_fits n lt = omega (arith, ints, lt)
+-- a number that fits 32 bits with its sign is moved by seven bytes
+number_size : (exit : ℕ) → exit < 2 ^ 31 → length (spelling (MovImm (register 0) (pos exit))) ≡ 7
+number_size exit lt =
+    ap (λ (b : Bool). length (if b then rex 1 0 0 0 ∷ 0xC7 ∷ modrm 3 0 0 ∷ imm32 (pos exit) else rex 1 0 0 0 ∷ (0xB8 + 0 % 8) ∷ imm64 (pos exit))) (lt-ltb exit (2 ^ 31) lt)
+
+pub stub_size : (to : ℤ) (exit : ℕ) → exit < 2 ^ 31 → sizes_of (puts (stub_code to exit)) ≡ 16
+stub_size to exit lt = omega (arith, number_size exit lt)
+
+pub stub_same : (to : ℤ) (exit : ℕ) → sizes_of (puts (stub_code to exit)) ≡ stub_bytes exit
+stub_same to exit = refl
+
+-- ---- lists of loops
+
+pub loops_append : (bytes number : ℕ) (xs ys : List Trace) → loops_code bytes number (xs ++ ys) ≡ loops_code bytes number xs ++ loops_code (bytes + sizes_of (loops_code bytes number xs)) (number + length xs) ys
+loops_append bytes number [] ys =
+    let e : bytes ≡ bytes + 0 = omega arith in
+    let f : number ≡ number + 0 = omega arith in
+    ap (λ (b : ℕ). loops_code b number ys) e ∙ ap (λ (n : ℕ). loops_code (bytes + 0) n ys) f
+loops_append bytes number (x ∷ xs) ys =
+    let code = loop_code bytes number (body_of x) in
+    let next = bytes + sizes_of code in
+    let more = loops_code next (number + 1) xs in
+    let e : next + sizes_of more ≡ bytes + sizes_of (code ++ more) = omega (arith, sizes-append code more) in
+    let f : number + 1 + length xs ≡ number + length (x ∷ xs) = omega arith in
+    ap (λ (l : List Slot). code ++ l) (loops_append next (number + 1) xs ys)
+    ∙ ap (λ (b : ℕ). code ++ (more ++ loops_code b (number + 1 + length xs) ys)) e
+    ∙ ap (λ (n : ℕ). code ++ (more ++ loops_code (bytes + sizes_of (code ++ more)) n ys)) f
+    ∙ sym (append_assoc code more (loops_code (bytes + sizes_of (code ++ more)) (number + length (x ∷ xs)) ys))
+
+pub whole_append : (xs ys : List Trace) → whole_of (xs ++ ys) ≡ whole_of xs ++ loops_code (sizes_of (whole_of xs)) (length xs) ys
+whole_append xs ys =
+    let common = puts common_code in
+    let front = loops_code (sizes_of common) 0 xs in
+    let n : 0 + length xs ≡ length xs = omega arith in
+    ap (λ (l : List Slot). common ++ l) (loops_append (sizes_of common) 0 xs ys)
+    ∙ ap (λ (b : ℕ). common ++ (front ++ loops_code b (0 + length xs) ys)) (sym (sizes-append common front))
+    ∙ ap (λ (k : ℕ). common ++ (front ++ loops_code (sizes_of (common ++ front)) k ys)) n
+    ∙ sym (append_assoc common front (loops_code (sizes_of (common ++ front)) (length xs) ys))
+
+-- the loops behind loop k
+abbrev pub behind : List Trace → ℕ → Trace → List Slot
+behind ts k t =
+    loops_code (sizes_of (whole_of (take k ts)) + sizes_of (loop_code (sizes_of (whole_of (take k ts))) k (body_of t))) (k + 1) (drop (k + 1) ts)
+
+pub whole_cut : (ts : List Trace) (k : ℕ) (t : Trace) → slice_get ts k ≡ Some t → whole_of ts ≡ whole_of (take k ts) ++ (loop_code (sizes_of (whole_of (take k ts))) k (body_of t) ++ behind ts k t)
+whole_cut ts k t e =
+    let lt = slice_get_within ts k t e in
+    let long : length (take k ts) ≡ k = length-take-le k ts (omega (arith, lt)) in
+    let parts : take k ts ++ (t ∷ drop (k + 1) ts) ≡ ts = ap (λ (l : List Trace). take k ts ++ l) (sym (front_of ts k t lt (sym (get_or_from_slice_get ts k t t e)))) ∙ take-append-drop k ts in
+    ap whole_of (sym parts)
+    ∙ whole_append (take k ts) (t ∷ drop (k + 1) ts)
+    ∙ ap (λ (n : ℕ). whole_of (take k ts) ++ loops_code (sizes_of (whole_of (take k ts))) n (t ∷ drop (k + 1) ts)) long
+
+-- ---- sizes of the whole
+
+-- the operations of each straight trace have few bytes
+abbrev pub AreSmall : Type 0
+AreSmall = (trace : Trace) → IsStraight trace → sizes_of (body_of trace) ≤ 786432
+
+loop_small : AreSmall → (bytes number : ℕ) (t : Trace) → IsStraight t → number < 256 → sizes_of (loop_code bytes number (body_of t)) ≤ 786448
+loop_small small bytes number t h lt =
+    let to = way_back (bytes + sizes_of (body_of t) + stub_bytes number) in
+    omega (arith, sizes-append (body_of t) (puts (stub_code to number)), stub_size to number (omega (arith, lt)), small t h)
+
+loops_small : AreSmall → (bytes number : ℕ) (ts : List Trace) → All IsStraightLoop ts → number + length ts ≤ 256 → sizes_of (loops_code bytes number ts) ≤ 786448 * length ts
+loops_small small bytes number [] h few = omega arith
+loops_small small bytes number (t ∷ ts) h few =
+    let code = loop_code bytes number (body_of t) in
+    let more = loops_code (bytes + sizes_of code) (number + 1) ts in
+    omega (arith, sizes-append code more, loop_small small bytes number t (All-head IsStraightLoop t ts h).straight (omega (arith, few)), loops_small small (bytes + sizes_of code) (number + 1) ts (All-tail IsStraightLoop t ts h) (omega (arith, few)))
+
+pub whole_small : AreSmall → (ts : List Trace) → All IsStraightLoop ts → length ts ≤ 256 → sizes_of (whole_of ts) < 2 ^ 28
+whole_small small ts h few =
+    let common = puts common_code in
+    omega (arith, sizes-append common (loops_code (sizes_of common) 0 ts), common_small, loops_small small (sizes_of common) 0 ts h (omega (arith, few)), few)
+
+-- what stands before a loop, its operations and its stub, and what stands behind
+pub sizes_cut : (ts : List Trace) (k : ℕ) (t : Trace) → slice_get ts k ≡ Some t → sizes_of (whole_of ts) ≡ sizes_of (whole_of (take k ts)) + (sizes_of (body_of t) + stub_bytes k + sizes_of (behind ts k t))
+sizes_cut ts k t e =
+    let front = whole_of (take k ts) in
+    let body = body_of t in
+    let stub = stub_behind (sizes_of front + sizes_of body) k in
+    let after = behind ts k t in
+    ap sizes_of (whole_cut ts k t e)
+    ∙ sizes-append front ((body ++ stub) ++ after)
+    ∙ omega (arith, sizes-append (body ++ stub) after, sizes-append body stub, stub_same (way_back (sizes_of front + sizes_of body + stub_bytes k)) k)
+
+pub front_large : (ts : List Trace) → 20 ≤ sizes_of (whole_of ts)
+front_large ts =
+    omega (arith, common_large, sizes-append (puts common_code) (loops_code (sizes_of (puts common_code)) 0 ts))
+
+-- ---- the whole
 
 near : AreNear unset
 near k = record { sfits = omega arith }
 
--- ---- the whole
+back_fits : (n : ℕ) → n < 2 ^ 30 → FitsSigned w32 (way_back n)
+back_fits n lt = omega (arith, ints, lt)
 
-pub body_small : Cited → (trace : Trace) → IsStraight trace → sizes_of (body_of trace) ≤ 786432
+pub body_small : Cited → AreSmall
 body_small law trace h =
     let ops = piece_ops trace.inputs trace.ops in
     let bound = law.short (where_in (places_of trace)) (λ k. pos 0) (λ k. 0) 0 ops in
@@ -136,40 +218,65 @@ body_small law trace h =
 pub boxes_may : (trace : Trace) → IsStraight trace → (b : ℕ) → MayHold (where_in (places_of trace) b)
 boxes_may trace h = places_may (length trace.inputs + length trace.ops - 1) (omega (arith, h.few_inputs, h.few_ops))
 
-pub code_size : (trace : Trace) → length (bytes_of unset (whole_of (body_of trace))) ≡ sizes_of (puts common_code) + (sizes_of (body_of trace) + sizes_of (puts (stub_code (pos 0) 0)))
-code_size trace =
-    sizes_are (puts common_code) (body_of trace) (puts (stub_code (way_back (body_of trace)) 0))
+body_rows : Cited → (trace : Trace) → IsStraight trace → HaveRows unset (body_of trace)
+body_rows law trace h =
+    law.rows unset (where_in (places_of trace)) 0 (piece_ops trace.inputs trace.ops) near (boxes_may trace h) (have_words trace.inputs trace.ops h.ops)
 
-pub have_rows : Cited → (trace : Trace) → IsStraight trace → HaveRows unset (whole_of (body_of trace))
-have_rows law trace h =
-    let body = body_of trace in
-    let c = sizes_of (puts common_code) in
-    let s = sizes_of (puts (stub_code (pos 0) 0)) in
-    let fits : FitsSigned w32 (way_back body) = back_fits (c + (sizes_of body + s)) (omega (arith, body_small law trace h, common_small, stub_small)) in
-    let exits = law.exit_rows unset (way_back body) 0 fits (omega arith) in
-    let rows : HaveRows unset body = law.rows unset (where_in (places_of trace)) 0 (piece_ops trace.inputs trace.ops) near (boxes_may trace h) (have_words trace.inputs trace.ops h.ops) in
-    rows_append (puts common_code) (body ++ puts (stub_code (way_back body) 0)) exits.1 (rows_append body (puts (stub_code (way_back body) 0)) rows exits.0)
+stub_rows : Cited → (bytes number : ℕ) → bytes < 2 ^ 29 → number < 256 → HaveRows unset (stub_behind bytes number)
+stub_rows law bytes number small few =
+    let to = way_back (bytes + stub_bytes number) in
+    (law.exit_rows unset to number (back_fits (bytes + stub_bytes number) (omega (arith, small, stub_size (pos 0) number (omega (arith, few))))) (omega (arith, few))).0
 
-pub laid : Cited → (trace : Trace) → IsStraight trace → IsLaidOut unset (bytes_of unset (whole_of (body_of trace))) (sizes_of (puts common_code)) 0 (λ k. sizes_of (puts common_code) + sizes_of (body_of trace)) (λ k. 0) (λ k. way_back (body_of trace)) (body_of trace)
-laid law trace h =
-    let body = body_of trace in
-    let stub = puts (stub_code (way_back body) 0) in
-    let parts = parts_stand law.stand (puts common_code) body stub (have_rows law trace h) in
-    let few = body_small law trace h in
-    let c = sizes_of (puts common_code) in
-    let s = sizes_of (puts (stub_code (pos 0) 0)) in
+loops_rows : Cited → (bytes number : ℕ) (ts : List Trace) → All IsStraightLoop ts → number + length ts ≤ 256 → bytes + 786448 * length ts < 2 ^ 28 → HaveRows unset (loops_code bytes number ts)
+loops_rows law bytes number [] h few small = tt
+loops_rows law bytes number (t ∷ ts) h few small =
+    let straight = (All-head IsStraightLoop t ts h).straight in
+    let body = body_of t in
+    let stub = stub_behind (bytes + sizes_of body) number in
+    let next = bytes + sizes_of (loop_code bytes number body) in
+    let own = loop_small (body_small law) bytes number t straight (omega (arith, few)) in
+    rows_append (loop_code bytes number body) (loops_code next (number + 1) ts)
+    (rows_append body stub (body_rows law t straight) (stub_rows law (bytes + sizes_of body) number (omega (arith, small, body_small law t straight)) (omega (arith, few))))
+    (loops_rows law next (number + 1) ts (All-tail IsStraightLoop t ts h) (omega (arith, few)) (omega (arith, small, own)))
+
+pub have_rows : Cited → (ts : List Trace) → All IsStraightLoop ts → length ts ≤ 256 → HaveRows unset (whole_of ts)
+have_rows law ts h few =
+    let common = puts common_code in
+    rows_append common (loops_code (sizes_of common) 0 ts) (law.exit_rows unset (pos 0) 0 (near 0) (omega arith)).1
+    (loops_rows law (sizes_of common) 0 ts h (omega (arith, few)) (omega (arith, few, common_small)))
+
+-- slots stand in the bytes of the slots around them
+stands_in : SlotsStand → (before xs after whole : List Slot) → before ++ (xs ++ after) ≡ whole → HaveRows unset whole → Lists unset (bytes_of unset whole) (sizes_of before) xs
+stands_in stand before xs after whole e =
+    subst (λ (l : List Slot). HaveRows unset l → Lists unset (bytes_of unset l) (sizes_of before) xs) e (stand unset before xs after)
+
+pub laid : Cited → (ts : List Trace) (k : ℕ) (t : Trace) → All IsStraightLoop ts → length ts ≤ 256 → slice_get ts k ≡ Some t → IsStraight t → IsLaidOut unset (bytes_of unset (whole_of ts)) (sizes_of (whole_of (take k ts))) 0 (λ j. sizes_of (whole_of (take k ts)) + sizes_of (body_of t)) (λ j. k) (λ j. way_back (sizes_of (whole_of (take k ts)) + sizes_of (body_of t) + stub_bytes k)) (body_of t)
+laid law ts k t all few e h =
+    let common = puts common_code in
+    let front = whole_of (take k ts) in
+    let loops = loops_code (sizes_of common) 0 (take k ts) in
+    let body = body_of t in
+    let stub = stub_behind (sizes_of front + sizes_of body) k in
+    let after = behind ts k t in
+    let whole = whole_of ts in
+    let rows = have_rows law ts all few in
+    let size = sizes_cut ts k t e in
+    let small = whole_small (body_small law) ts all few in
+    let cut : front ++ ((body ++ stub) ++ after) ≡ whole = sym (whole_cut ts k t e) in
+    let inner : front ++ (body ++ (stub ++ after)) ≡ whole = ap (λ (l : List Slot). front ++ l) (sym (append_assoc body stub after)) ∙ cut in
+    let tail : (front ++ body) ++ (stub ++ after) ≡ whole = append_assoc front body (stub ++ after) ∙ inner in
+    let head : common ++ (loops ++ (body ++ (stub ++ after))) ≡ whole = sym (append_assoc common loops (body ++ (stub ++ after))) ∙ inner in
+    let lt = slice_get_within ts k t e in
+    let to = way_back (sizes_of front + sizes_of body + stub_bytes k) in
     record {
-      small = omega (arith, code_size trace, few, common_small, stub_small);
-      numbers = λ k j. omega arith;
-      piece = parts.1;
-      stubs = λ k j. parts.2;
-      common = parts.0;
-      jumps = leads (where_in (places_of trace)) 0 c (c + sizes_of body) trace.inputs trace.ops h.ops refl (omega (arith, few, common_small));
-      on = λ k j. target_back (0x40000000 + (c + sizes_of body + s)) (c + (sizes_of body + s)) (0x40000000 + 0) (omega arith) (omega (arith, few, common_small, stub_small));
+      small = omega (arith, length-bytes whole, small);
+      numbers = λ j has. omega (arith, lt, few);
+      piece = stands_in law.stand front body (stub ++ after) whole inner rows;
+      stubs = λ j has. subst (λ (n : ℕ). Lists unset (bytes_of unset whole) n stub) (sizes-append front body) (stands_in law.stand (front ++ body) stub after whole tail rows);
+      common = stands_in law.stand [] common (loops ++ (body ++ (stub ++ after))) whole head rows;
+      jumps = leads (where_in (places_of t)) 0 (sizes_of front) (sizes_of front + sizes_of body) t.inputs t.ops h.ops refl (omega (arith, size, small));
+      on = λ j has. target_back (0x40000000 + (sizes_of front + sizes_of body + sizes_of (puts (stub_code to k)))) (sizes_of front + sizes_of body + stub_bytes k) (0x40000000 + 0) (omega (arith, stub_same to k)) (omega (arith, size, small, stub_same to k));
     }
-
-pub code_small : Cited → (trace : Trace) → IsStraight trace → length (bytes_of unset (whole_of (body_of trace))) < 2 ^ 20
-code_small law trace h = omega (arith, code_size trace, body_small law trace h, common_small, stub_small)
 
 pub bodies_have_rows : Cited → BodiesHaveRows
 bodies_have_rows law trace h =
@@ -179,88 +286,6 @@ bodies_have_rows law trace h =
       straight = piece_straight trace.inputs trace.ops h.ops;
       there = λ b. (boxes_may trace h b).there;
       within = subst (λ (k : ℕ). AreIn k (piece_ops trace.inputs trace.ops)) (sym same) (are_in n trace.inputs trace.ops h.ops (omega arith));
-      rows = have_rows law trace h;
+      rows = body_rows law trace h;
       small = body_small law trace h;
     }
-
--- ---- instructions and slots
-
-instrs_puts : (xs : List Slot) → bytes_of unset (puts (instrs_of xs)) ≡ bytes_of unset xs
-instrs_puts [] = refl
-instrs_puts (x ∷ xs) = ap (λ (l : List ℕ). spelling (instr_of unset x) ++ l) (instrs_puts xs)
-
-bytes_append : (xs ys : List Slot) → bytes_of unset (xs ++ ys) ≡ bytes_of unset xs ++ bytes_of unset ys
-bytes_append [] ys = refl
-bytes_append (x ∷ xs) ys =
-    ap (λ (l : List ℕ). spelling (instr_of unset x) ++ l) (bytes_append xs ys) ∙ sym (append_assoc (spelling (instr_of unset x)) (bytes_of unset xs) (bytes_of unset ys))
-
-pub sizes_puts : (xs : List Slot) → sizes_of (puts (instrs_of xs)) ≡ sizes_of xs
-sizes_puts xs = sym (length-bytes (puts (instrs_of xs))) ∙ ap length (instrs_puts xs) ∙ length-bytes xs
-
-rows_puts : (xs : List Slot) → HaveRows unset xs → HaveRows unset (puts (instrs_of xs))
-rows_puts [] h = tt
-rows_puts (x ∷ xs) h = (h.0, rows_puts xs h.1)
-
-rows_left : (xs ys : List Slot) → HaveRows unset (xs ++ ys) → HaveRows unset xs
-rows_left [] ys h = tt
-rows_left (x ∷ xs) ys h = (h.0, rows_left xs ys h.1)
-
-rows_right : (xs ys : List Slot) → HaveRows unset (xs ++ ys) → HaveRows unset ys
-rows_right [] ys h = h
-rows_right (x ∷ xs) ys h = rows_right xs ys h.1
-
-way_same : (a b : List Slot) → sizes_of a ≡ sizes_of b → way_back a ≡ way_back b
-way_same a b e = ap (λ (n : ℕ). neg_ℤ (pos (sizes_of (puts common_code) + (n + sizes_of (puts (stub_code (pos 0) 0)))))) e
-
--- the whole of a body's instructions, one by one
-pub whole_same : (b : List Slot) → bytes_of unset (whole_of (puts (instrs_of b))) ≡ bytes_of unset (whole_of b)
-whole_same b =
-    let x = puts (instrs_of b) in
-    let stub = λ (to : ℤ). puts (stub_code to 0) in
-    bytes_append (puts common_code) (x ++ stub (way_back x))
-    ∙ ap (λ (l : List ℕ). bytes_of unset (puts common_code) ++ l)
-    (bytes_append x (stub (way_back x)) ∙ ap (λ (l : List ℕ). l ++ bytes_of unset (stub (way_back x))) (instrs_puts b)
-    ∙ ap (λ (to : ℤ). bytes_of unset b ++ bytes_of unset (stub to)) (way_same x b (sizes_puts b))
-    ∙ sym (bytes_append b (stub (way_back b))))
-    ∙ sym (bytes_append (puts common_code) (b ++ stub (way_back b)))
-
-pub whole_rows : (b : List Slot) → HaveRows unset (whole_of b) → HaveRows unset (whole_of (puts (instrs_of b)))
-whole_rows b h =
-    let x = puts (instrs_of b) in
-    let stub = λ (to : ℤ). puts (stub_code to 0) in
-    let behind = rows_right (puts common_code) (b ++ stub (way_back b)) h in
-    rows_append (puts common_code) (x ++ stub (way_back x)) (rows_left (puts common_code) (b ++ stub (way_back b)) h)
-    (rows_append x (stub (way_back x)) (rows_puts b (rows_left b (stub (way_back b)) behind))
-    (subst (λ (to : ℤ). HaveRows unset (stub to)) (sym (way_same x b (sizes_puts b))) (rows_right b (stub (way_back b)) behind)))
-
--- the bytes of the parts, one behind the other
-pub whole_bytes : (body : List Instr) (c1 c2 c3 : List ℕ) (back : ℤ) → c1 ≡ [] ++ bytes_of unset (puts common_code) → c2 ≡ c1 ++ bytes_of unset (puts body) → c3 ≡ c2 ++ bytes_of unset (puts (stub_code back 0)) → back ≡ way_back (puts body) → c3 ≡ bytes_of unset (whole_of (puts body))
-whole_bytes body c1 c2 c3 back e1 e2 e3 e =
-    let stub = λ (to : ℤ). bytes_of unset (puts (stub_code to 0)) in
-    e3
-    ∙ ap (λ (l : List ℕ). l ++ stub back) (e2 ∙ ap (λ (l : List ℕ). l ++ bytes_of unset (puts body)) e1)
-    ∙ ap (λ (to : ℤ). (bytes_of unset (puts common_code) ++ bytes_of unset (puts body)) ++ stub to) e
-    ∙ append_assoc (bytes_of unset (puts common_code)) (bytes_of unset (puts body)) (stub (way_back (puts body)))
-    ∙ ap (λ (l : List ℕ). bytes_of unset (puts common_code) ++ l) (sym (bytes_append (puts body) (puts (stub_code (way_back (puts body)) 0))))
-    ∙ sym (bytes_append (puts common_code) (puts body ++ puts (stub_code (way_back (puts body)) 0)))
-
--- how many bytes stand in front of the stub
-pub front_length : (body : List Instr) (c1 c2 : List ℕ) → c1 ≡ [] ++ bytes_of unset (puts common_code) → c2 ≡ c1 ++ bytes_of unset (puts body) → length c2 ≡ sizes_of (puts common_code) + sizes_of (puts body)
-front_length body c1 c2 e1 e2 =
-    ap length (e2 ∙ ap (λ (l : List ℕ). l ++ bytes_of unset (puts body)) e1)
-    ∙ length-append (bytes_of unset (puts common_code)) (bytes_of unset (puts body))
-    ∙ omega (arith, length-bytes (puts common_code), length-bytes (puts body))
-
-pub back_is : (body : List Instr) (n : ℕ) (back : ℤ) → n ≡ sizes_of (puts common_code) + sizes_of (puts body) → back ≡ neg_ℤ (pos (n + 16)) → back ≡ way_back (puts body)
-back_is body n back e f =
-    let m : n + 16 ≡ sizes_of (puts common_code) + (sizes_of (puts body) + sizes_of (puts (stub_code (pos 0) 0))) = omega (arith, e) in
-    f ∙ ap (λ (k : ℕ). neg_ℤ (pos k)) m
-
-pub common_rows : (body : List Slot) → HaveRows unset (whole_of body) → HaveRows unset (puts common_code)
-common_rows body h = rows_left (puts common_code) (body ++ puts (stub_code (way_back body) 0)) h
-
-pub middle_rows : (body : List Slot) → HaveRows unset (whole_of body) → HaveRows unset body
-middle_rows body h = rows_left body (puts (stub_code (way_back body) 0)) (rows_right (puts common_code) (body ++ puts (stub_code (way_back body) 0)) h)
-
-pub stub_rows : (body : List Slot) → HaveRows unset (whole_of body) → HaveRows unset (puts (stub_code (way_back body) 0))
-stub_rows body h = rows_right body (puts (stub_code (way_back body) 0)) (rows_right (puts common_code) (body ++ puts (stub_code (way_back body) 0)) h)

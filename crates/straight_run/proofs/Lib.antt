@@ -1,8 +1,10 @@
+pub mod Listed
 pub mod Codes
 pub mod Recorded
 pub mod Placed
 pub mod Cited
 pub mod Laid
+pub mod Built
 pub mod Running
 pub mod Started
 pub mod Behaved
@@ -11,3 +13,4 @@ pub mod Counting
 pub mod Stepping
 pub mod Tried
 pub mod Tested
+pub mod Ruled

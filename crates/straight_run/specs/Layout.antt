@@ -1,10 +1,13 @@
--- What a compiled straight trace is: the places of its boxes, its code and its finish.
-use Rattle.std.specs.Prelude.{◌≡◌, ℕ, zero, suc, ◌+◌, ◌-◌, ◌≤◌, ℤ, pos, neg_ℤ, Option, Some, None, List, [], ◌∷◌, ◌++◌, length, map}
+-- What compiled straight loops are: the places of their boxes, their code and their finishes.
+use Rattle.std.specs.Prelude.{◌≡◌, ℕ, zero, suc, ◌+◌, ◌-◌, ◌≤◌, ℤ, pos, neg_ℤ, Option, Some, None, List, [], ◌∷◌, ◌++◌, length, map, take, slice_get}
+use Rattle.std.specs.List.{All}
 use Rattle.std.specs.Option.{option_to_list}
 use Rattle.trace_ops.specs.declared.trace.BoxId.{BoxId}
 use Rattle.trace_ops.specs.declared.trace.Arg.{Arg}
 use Rattle.trace_ops.specs.declared.trace.Op.{Op}
+use Rattle.trace_ops.specs.declared.trace.Origin.TheVariants.{Loop}
 use Rattle.trace_ops.specs.declared.trace.Trace.{Trace}
+use Rattle.trace_ops.specs.declared.trace.TraceSet.{TraceSet}
 use Rattle.opt_meaning.specs.Step as step
 use Rattle.x64_encode.specs.declared.place.Place.{Place}
 use Rattle.x64_encode.specs.declared.place.Place.TheVariants.{Word}
@@ -13,6 +16,7 @@ use Rattle.asm_select.specs.Slots.{Slot, puts, sizes_of, bytes_of, unset, HaveRo
 use Rattle.asm_select.specs.Chosen.{all_code}
 use Rattle.asm_select.specs.Given.{where_in, AreThere, AreIn}
 use Rattle.straight_run.specs.declared.image.Image.{Image}
+use Rattle.straight_run.specs.declared.image.LoopImage.{LoopImage}
 use Rattle.straight_run.specs.Straight.{IsNew, IsStraightFrom, renumbered, first_arg, piece_ops}
 
 -- new integer boxes, no two of them the same
@@ -27,6 +31,15 @@ pub record IsStraight (trace : Trace) : Type 0 where
   pub few_inputs : length trace.inputs ≤ 64
   pub few_ops : length trace.ops ≤ 8192
 
+-- a loop, and not a bridge, that is straight
+pub record IsStraightLoop (trace : Trace) : Type 0 where
+  pub origin : trace.origin ≡ Loop
+  pub straight : IsStraight trace
+
+-- a set of straight loops
+abbrev pub AreStraight : TraceSet → Type 0
+AreStraight set = All IsStraightLoop set.traces
+
 -- so many frame words, from word k on
 abbrev pub words_from : ℕ → ℕ → List Place
 words_from k zero = []
@@ -40,13 +53,30 @@ places_of trace = words_from 16 (length trace.inputs + length trace.ops - 1)
 abbrev pub body_of : Trace → List Slot
 body_of trace = all_code (where_in (places_of trace)) 0 (piece_ops trace.inputs trace.ops)
 
--- the common exit's place is 0: the jump of the stub behind some operations goes back over all bytes
-abbrev pub way_back : List Slot → ℤ
-way_back body = neg_ℤ (pos (sizes_of (puts common_code) + (sizes_of body + sizes_of (puts (stub_code (pos 0) 0)))))
+-- the common exit's place is 0: the jump of a stub that ends behind so many bytes goes back over all of them
+abbrev pub way_back : ℕ → ℤ
+way_back bytes = neg_ℤ (pos bytes)
 
--- the common exit, the operations, and the stub of exit 0, into which the finish goes on
-abbrev pub whole_of : List Slot → List Slot
-whole_of body = puts common_code ++ (body ++ puts (stub_code (way_back body) 0))
+abbrev pub stub_bytes : ℕ → ℕ
+stub_bytes number = sizes_of (puts (stub_code (pos 0) number))
+
+-- the stub of the exit of this number, behind so many bytes
+abbrev pub stub_behind : ℕ → ℕ → List Slot
+stub_behind bytes number = puts (stub_code (way_back (bytes + stub_bytes number)) number)
+
+-- a loop behind so many bytes: its operations, and the stub of the exit of its number, into which the finish goes on
+abbrev pub loop_code : ℕ → ℕ → List Slot → List Slot
+loop_code bytes number body = body ++ stub_behind (bytes + sizes_of body) number
+
+-- loops one behind the other, the first of them behind so many bytes and with this number
+abbrev pub loops_code : ℕ → ℕ → List Trace → List Slot
+loops_code bytes number [] = []
+loops_code bytes number (trace ∷ more) =
+    loop_code bytes number (body_of trace) ++ loops_code (bytes + sizes_of (loop_code bytes number (body_of trace))) (number + 1) more
+
+-- the common exit, and behind it the loops, numbered from 0
+abbrev pub whole_of : List Trace → List Slot
+whole_of traces = puts common_code ++ loops_code (sizes_of (puts common_code)) 0 traces
 
 -- the finish's argument, in the numbers of the piece
 abbrev pub shown_of : List BoxId → List Op → Option Arg
@@ -54,19 +84,22 @@ shown_of boxes [] = None
 shown_of boxes (op ∷ []) = first_arg (map (renumbered boxes) op.args)
 shown_of boxes (op ∷ next ∷ more) = shown_of (boxes ++ option_to_list op.result) (next ∷ more)
 
--- the image has this code, and is entered behind the common exit; its finish shows this argument
-pub record IsImage (trace : Trace) (image : Image) : Type 0 where
-  pub code : image.code ≡ bytes_of unset (whole_of (body_of trace))
-  pub entry : image.entry ≡ sizes_of (puts common_code)
-  pub shown : image.shown ≡ shown_of trace.inputs trace.ops
-  pub places : image.places ≡ places_of trace
+-- the image of a loop that is entered at this place
+abbrev pub loop_image : ℕ → Trace → LoopImage
+loop_image entry trace = record { entry = entry; shown = shown_of trace.inputs trace.ops; places = places_of trace }
+
+-- The image has this code, and as many loops as the set has traces; each is entered behind the code of those before it.
+pub record IsImage (set : TraceSet) (image : Image) : Type 0 where
+  pub code : image.code ≡ bytes_of unset (whole_of set.traces)
+  pub count : length image.loops ≡ length set.traces
+  pub loops : (k : ℕ) (trace : Trace) → slice_get set.traces k ≡ Some trace → slice_get image.loops k ≡ Some (loop_image (sizes_of (whole_of (take k set.traces))) trace)
 
 -- what selection needs of a straight trace, and what the encoder needs of what is selected
 pub record BodyHasRows (trace : Trace) : Type 0 where
   pub straight : step.IsStraight (piece_ops trace.inputs trace.ops)
   pub there : AreThere (places_of trace)
   pub within : AreIn (length (places_of trace)) (piece_ops trace.inputs trace.ops)
-  pub rows : HaveRows unset (whole_of (body_of trace))
+  pub rows : HaveRows unset (body_of trace)
   pub small : sizes_of (body_of trace) ≤ 786432
 
 abbrev pub BodiesHaveRows : Type 0

@@ -3,3 +3,4 @@ pub mod Layout
 pub mod Session
 pub mod Behaving
 pub mod Drafting
+pub mod OnlyWords

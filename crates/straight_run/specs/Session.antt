@@ -1,5 +1,5 @@
 -- An activation of a printed image.
-use Rattle.std.specs.Prelude.{◌≡◌, ℕ, zero, suc, ◌+◌, ◌*◌, ◌==◌, if◌then◌else◌, List, [], Option, ℤ}
+use Rattle.std.specs.Prelude.{◌≡◌, ℕ, zero, suc, ◌+◌, ◌*◌, List, [], Option, Some, None, slice_get, ℤ}
 use Rattle.std.specs.Int.{w64, cast_unsigned}
 use Rattle.guard_exit.specs.Codes.{register}
 use Rattle.x64_machine.specs.declared.state.Stop.{Stop}
@@ -12,17 +12,23 @@ use Rattle.x64_machine.specs.Step.{MachineStep}
 use Rattle.asm_select.specs.Given.{where_in}
 use Rattle.asm_select.specs.Exited.{read_exit}
 use Rattle.straight_run.specs.declared.image.Image.{Image}
+use Rattle.straight_run.specs.declared.image.LoopImage.{LoopImage}
 use Rattle.straight_run.specs.declared.session.Now.{Now}
 use Rattle.straight_run.specs.declared.session.Now.TheVariants.{Going, Finished, Wrong}
 use Rattle.straight_run.specs.declared.session.Observed.{Observed}
 
--- the value of the finish: a box is read where the common exit saved it
-abbrev pub value_shown : Image → State → Option ℤ
-value_shown image s = read_exit (where_in image.places) s image.shown
+-- the value of a loop's finish: a box is read where the common exit saved it
+abbrev pub value_shown : LoopImage → State → Option ℤ
+value_shown ended s = read_exit (where_in ended.places) s ended.shown
 
--- a return ends the activation by the exit whose number is in rax; there is exit 0 alone, the finish
+-- an exit's number is that of its loop; an exit of no loop is wrong
+abbrev pub finished : Option LoopImage → State → ℕ → Now
+finished (Some ended) s exit = Finished (value_shown ended s)
+finished None s exit = Wrong exit
+
+-- a return ends the activation by the exit whose number is in rax
 abbrev pub returned : Image → State → ℕ → Now
-returned image s exit = if exit == 0 then Finished (value_shown image s) else Wrong exit
+returned image s exit = finished (slice_get image.loops exit) s exit
 
 -- an activation whose machine stops
 abbrev pub stopped : Image → State → Stop → Now
@@ -46,16 +52,18 @@ abbrev pub Runs : List ℕ → ℕ → State → Acted → Type 0
 Runs code zero s done = done ≡ acted Went s
 Runs code (suc m) s done = (turn : Turn) × (t : State) × MachineStep code s (acted turn t) × GoesOn turn t (Runs code m) done
 
--- the machine before its first instruction: an arena of a mebibyte, none of it taken, and the inputs in the frame
-abbrev pub Starts : Image → List ℤ → State → Type 0
-Starts image inputs s = IsStart 1048576 [] image.entry inputs s
+-- the machine before the loop's first instruction: an arena of a mebibyte, none of it taken, and the inputs in the frame
+abbrev pub Starts : LoopImage → List ℤ → State → Type 0
+Starts begun inputs s = IsStart 1048576 [] begun.entry inputs s
 
--- what is seen of an activation of the image on these inputs, after at most m instructions
-pub record IsActivation (image : Image) (inputs : List ℤ) (m : ℕ) (seen : Observed) : Type 0 where
+-- what is seen of an activation of the loop of this number on these inputs, after at most m instructions
+pub record IsActivation (image : Image) (number : ℕ) (inputs : List ℤ) (m : ℕ) (seen : Observed) : Type 0 where
+  pub begun : LoopImage
+  pub there : slice_get image.loops number ≡ Some begun
   pub first : State
   pub last : State
   pub turn : Turn
-  pub starts : Starts image inputs first
+  pub starts : Starts begun inputs first
   pub runs : Runs image.code m first (acted turn last)
   pub state : seen.state ≡ now_at image last turn
   pub counts : seen.counts ≡ counts_of last

@@ -15,7 +15,7 @@ use trace_ops::{
 };
 
 // How many words a pure integer operation takes.
-fn arity(code: OpCode) -> Option<usize>
+pub(crate) fn arity(code: OpCode) -> Option<usize>
     ensures { result ≡ integer_arity code }
 {
     words_taken(part_of(code), cites_of(code), takes_of(code))

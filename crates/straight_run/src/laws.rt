@@ -2,6 +2,7 @@
 ghost use Rattle.straight_run.specs.Layout.{BodiesHaveRows};
 ghost use Rattle.straight_run.specs.Straight.{RunFinishes};
 ghost use Rattle.straight_run.specs.Behaving.{ImagesBehave, ImagesAreWhole};
+ghost use Rattle.straight_run.specs.OnlyWords.{WellFormedSetsAreStraight};
 
 use asm_select::{
     chosen_are_short, chosen_have_rows, exits_have_rows, piece_returns, slots_are_whole,
@@ -15,8 +16,13 @@ pub fn recorded_run_finishes()
     ensures { RunFinishes }
 {}
 
-/// The image of a straight trace does what the trace does, on all inputs: both finish alike, each within so many steps
-/// of the other, and the image never goes wrong.
+/// A well-formed set of loops of integers alone, within the limits, is straight.
+pub fn well_formed_sets_are_straight()
+    ensures { WellFormedSetsAreStraight }
+{}
+
+/// The image of straight loops does what each loop does, on all inputs: both finish alike, each within so many steps of
+/// the other, and the image never goes wrong.
 pub fn images_behave()
     ensures { ImagesBehave }
 {
@@ -30,7 +36,7 @@ pub fn images_behave()
     straight_pieces_finish();
 }
 
-/// Decoding the code of an image from its first byte on reaches its end, and it has fewer than 2^20 bytes.
+/// Decoding the code of an image from its first byte on reaches its end, and it has fewer than 2^28 bytes.
 pub fn images_are_whole()
     ensures { ImagesAreWhole }
 {
@@ -45,7 +51,7 @@ pub fn images_are_whole()
     straight_pieces_finish();
 }
 
-// Each instruction of an image has a row, its places are there, and its operations have few bytes.
+// Each instruction of a loop has a row, its places are there, and its operations have few bytes.
 pub(crate) fn code_has_rows()
     ensures { BodiesHaveRows }
 {

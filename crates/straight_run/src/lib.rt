@@ -7,12 +7,16 @@ mod compiler;
 mod draft;
 mod image;
 mod laws;
+mod only_words;
 mod session;
 
 pub use checking::is_straight;
 pub use compiler::compile;
-pub use image::Image;
-pub use laws::{images_are_whole, images_behave, recorded_run_finishes};
+pub use image::{Image, LoopImage};
+pub use laws::{
+    images_are_whole, images_behave, recorded_run_finishes, well_formed_sets_are_straight,
+};
+pub use only_words::has_only_words;
 pub use session::{Now, Observed, run};
 
 #[cfg(test)]

@@ -6,9 +6,9 @@ ghost use Rattle.x64_machine.specs.State.{acted};
 ghost use Rattle.asm_select.specs.Chosen.{operand_of};
 ghost use Rattle.asm_select.specs.Given.{where_in};
 ghost use Rattle.asm_select.specs.Exited.{saved_at, read_saved};
-ghost use Rattle.straight_run.specs.Session.{Runs, IsActivation, now_at, stopped, value_shown};
+ghost use Rattle.straight_run.specs.Session.{Runs, IsActivation, now_at, stopped, returned, value_shown};
 
-use crate::image::Image;
+use crate::image::{Image, LoopImage};
 use std::alloc::{AllocError, Global};
 use trace_ops::{Arg, Word};
 use x64_encode::{Fetch, Place, PlainCode, Reg};
@@ -32,20 +32,23 @@ pub struct Observed {
     pub counts: Counts64,
 }
 
-/// Runs the image on these inputs, for at most `budget` instructions.
+/// Runs the loop of this number on these inputs, for at most `budget` instructions.
 pub fn run(
     alloc: Global,
     image: &Image,
+    number: u32,
     inputs: &[Word],
     budget: u64,
 ) -> Result<Observed, AllocError>
+    requires there { number < length image.now.loops }
     requires few { length inputs.now ≤ 64 }
     requires small { length image.now.code < 2 ^ 30 }
     requires bound { budget < 2 ^ 62 }
-    ensures { IfOk result (λ seen. IsActivation image.now inputs.now budget seen) }
+    ensures { IfOk result (λ seen. IsActivation image.now number inputs.now budget seen) }
 {
     let code = PlainCode::new(Vec::from_slice(alloc, image.code.items())?);
-    let mut machine = Machine::start(alloc, ARENA_BYTES, &[], image.entry, inputs)?;
+    let begun = &image.loops.items()[number as usize];
+    let mut machine = Machine::start(alloc, ARENA_BYTES, &[], begun.entry, inputs)?;
     let turn = run_for(&mut machine, &code, budget);
     Ok(Observed {
         state: now_at(&machine, image, turn),
@@ -80,14 +83,7 @@ fn stopped_at(machine: &Machine, image: &Image, stop: Stop) -> Now
     ensures { result ≡ stopped image.now machine.now stop }
 {
     match stop {
-        Stop::Returned => {
-            let exit = machine.reg(Reg(0)).cast_unsigned();
-            if exit == 0 {
-                Now::Finished(value_shown(machine, image))
-            } else {
-                Now::Wrong(exit)
-            }
-        }
+        Stop::Returned => returned(machine, image, machine.reg(Reg(0)).cast_unsigned()),
         Stop::HostCall { entry } => Now::Wrong(0x3000_0000 + 16 * u64::from(entry)),
         Stop::BadAddress { at } => Now::Wrong(at),
         Stop::BadCode { at } => Now::Wrong(at),
@@ -95,13 +91,23 @@ fn stopped_at(machine: &Machine, image: &Image, stop: Stop) -> Now
     }
 }
 
-// The value of the finish.
-fn value_shown(machine: &Machine, image: &Image) -> Option<Word>
-    ensures { result ≡ value_shown image.now machine.now }
+// A return by the exit of this number.
+fn returned(machine: &Machine, image: &Image, exit: u64) -> Now
+    ensures { result ≡ returned image.now machine.now exit }
 {
-    match image.shown {
+    match image.loops.items().get(exit as usize) {
+        Some(ended) => Now::Finished(value_shown(machine, ended)),
+        None => Now::Wrong(exit),
+    }
+}
+
+// The value of the loop's finish.
+fn value_shown(machine: &Machine, ended: &LoopImage) -> Option<Word>
+    ensures { result ≡ value_shown ended.now machine.now }
+{
+    match ended.shown {
         None => None,
-        Some(a) => Some(word_shown(machine, image.places.items(), a)),
+        Some(a) => Some(word_shown(machine, ended.places.items(), a)),
     }
 }
 

@@ -1,14 +1,16 @@
-ghost use Rattle.std.specs.Prelude.{◌≡◌, ◌<◌, ◌^◌, ◌∷◌, [], Some, length, IfOk};
+ghost use Rattle.std.specs.Prelude.{◌≡◌, ◌≤◌, ◌<◌, ◌^◌, ◌∷◌, [], Some, length, IfOk};
 ghost use Rattle.std.specs.List.{All};
 ghost use Rattle.trace_ops.specs.Folds.{integer_arity};
 ghost use Rattle.trace_ops.specs.declared.trace.Arg.TheVariants.{Of};
 ghost use Rattle.straight_run.specs.Straight.{IsScoped, integer, pair};
-ghost use Rattle.straight_run.specs.Layout.{IsStraight};
+ghost use Rattle.straight_run.specs.Layout.{IsStraightLoop, AreStraight};
 
-use crate::{Now, compile, images_are_whole, is_straight, run};
+use crate::{Now, compile, has_only_words, images_are_whole, is_straight, run};
 use std::alloc::{AllocError, Global};
 use std::test::Fail;
-use trace_ops::{Arg, BoxId, Descr, Kind, List, Op, OpCode, Origin, Text, Trace, Word};
+use trace_ops::{
+    Arg, BoxId, Descr, Kind, List, Op, OpCode, Origin, Table, Text, Trace, TraceSet, Word,
+};
 
 fn integer(number: u32) -> BoxId
     ensures { result ≡ integer number }
@@ -54,7 +56,7 @@ fn finish(alloc: Global) -> Result<Op, AllocError>
 fn straight(alloc: Global, code: OpCode, args: List<Arg>) -> Result<Trace, AllocError>
     requires arity { integer_arity code ≡ Some (length args) }
     requires scoped { All (IsScoped pair) args }
-    ensures { IfOk result (λ trace. IsStraight trace) }
+    ensures { IfOk result (λ trace. IsStraightLoop trace) }
 {
     let inputs = pair(alloc)?;
     let first = operation(alloc, code, Some(integer(2)), args);
@@ -71,6 +73,65 @@ fn straight(alloc: Global, code: OpCode, args: List<Arg>) -> Result<Trace, Alloc
     })
 }
 
+fn no_rows(alloc: Global) -> Table {
+    Table {
+        shapes: List::of(Vec::new(alloc)),
+        sizes: List::of(Vec::new(alloc)),
+        fields: List::of(Vec::new(alloc)),
+        arrays: List::of(Vec::new(alloc)),
+        calls: List::of(Vec::new(alloc)),
+        functions: List::of(Vec::new(alloc)),
+        prebuilts: List::of(Vec::new(alloc)),
+    }
+}
+
+fn one_loop(alloc: Global, only: Trace) -> Result<TraceSet, AllocError>
+    requires { IsStraightLoop only }
+    ensures count { IfOk result (λ set. length set.traces ≡ 1) }
+    ensures straight { IfOk result (λ set. AreStraight set) }
+{
+    let mut traces = List::of(Vec::new(alloc));
+    traces.push(only)?;
+    Ok(TraceSet {
+        table: no_rows(alloc),
+        traces,
+    })
+}
+
+fn two_loops(alloc: Global, first: Trace, second: Trace) -> Result<TraceSet, AllocError>
+    requires first { IsStraightLoop first }
+    requires second { IsStraightLoop second }
+    ensures count { IfOk result (λ set. length set.traces ≡ 2) }
+    ensures straight { IfOk result (λ set. AreStraight set) }
+{
+    let mut traces = List::of(Vec::new(alloc));
+    traces.push(first)?;
+    traces.push(second)?;
+    Ok(TraceSet {
+        table: no_rows(alloc),
+        traces,
+    })
+}
+
+// Where the activation of a loop of the set stands, on these two inputs.
+fn run_in(
+    alloc: Global,
+    set: &TraceSet,
+    number: u32,
+    inputs: [Word; 2],
+    budget: u64,
+) -> Result<Now, AllocError>
+    requires straight { AreStraight set.now }
+    requires few { length set.now.traces ≤ 256 }
+    requires there { number < length set.now.traces }
+    requires bound { budget < 2 ^ 62 }
+{
+    images_are_whole();
+    let image = compile(alloc, set)?;
+    let seen = run(alloc, &image, number, &inputs, budget)?;
+    Ok(seen.state)
+}
+
 // Where the activation of the one operation stands, on these two inputs.
 fn after(
     alloc: Global,
@@ -83,11 +144,9 @@ fn after(
     requires scoped { All (IsScoped pair) args }
     requires bound { budget < 2 ^ 62 }
 {
-    images_are_whole();
-    let trace = straight(alloc, code, args)?;
-    let image = compile(alloc, &trace)?;
-    let seen = run(alloc, &image, &inputs, budget)?;
-    Ok(seen.state)
+    let only = straight(alloc, code, args)?;
+    let set = one_loop(alloc, only)?;
+    run_in(alloc, &set, 0, inputs, budget)
 }
 
 // What the operation gives, of two inputs.
@@ -225,6 +284,61 @@ fn a_short_budget_goes_on(rt: HostRuntime) -> Result<(), Fail> {
     let args = vec![in alloc; Arg::Of(integer(0))]?;
     let now = after(alloc, OpCode::SameAsI, List::of(args), [4, 0], 5)?;
     assert_eq!(rt; now, Now::Going);
+    Ok(())
+}
+
+// The trace of an operation of both inputs.
+fn of_both(alloc: Global, code: OpCode) -> Result<Trace, AllocError>
+    requires { integer_arity code ≡ Some 2 }
+    ensures { IfOk result (λ trace. IsStraightLoop trace) }
+{
+    let args = vec![in alloc; Arg::Of(integer(0)), Arg::Of(integer(1))]?;
+    straight(alloc, code, List::of(args))
+}
+
+#[test]
+fn each_of_two_loops_finishes_with_its_own_value(rt: HostRuntime) -> Result<(), Fail> {
+    let alloc = rt.alloc();
+    let sum = of_both(alloc, OpCode::IntAdd)?;
+    let difference = of_both(alloc, OpCode::IntSub)?;
+    let set = two_loops(alloc, sum, difference)?;
+    let seen = [
+        run_in(alloc, &set, 0, [7, 2], 100)?,
+        run_in(alloc, &set, 1, [7, 2], 100)?,
+    ];
+    let wanted = [Now::Finished(Some(9)), Now::Finished(Some(5))];
+    assert_eq!(rt; seen, wanted);
+    Ok(())
+}
+
+// The set of one loop that finishes with this value at once.
+fn finishing(alloc: Global, value: Arg) -> Result<TraceSet, AllocError> {
+    let shown = vec![in alloc; value]?;
+    let mut ops = List::of(Vec::new(alloc));
+    ops.push(operation(alloc, OpCode::Finish, None, List::of(shown)))?;
+    let mut traces = List::of(Vec::new(alloc));
+    traces.push(Trace {
+        name: Text::new(b"t"),
+        origin: Origin::Loop,
+        label: false,
+        inputs: pair(alloc)?,
+        ops,
+    })?;
+    Ok(TraceSet {
+        table: no_rows(alloc),
+        traces,
+    })
+}
+
+#[test]
+fn a_box_and_a_word_are_words_and_null_is_not(rt: HostRuntime) -> Result<(), Fail> {
+    let alloc = rt.alloc();
+    let seen = [
+        has_only_words(&finishing(alloc, Arg::Of(integer(0)))?),
+        has_only_words(&finishing(alloc, Arg::Const(7))?),
+        has_only_words(&finishing(alloc, Arg::Null)?),
+    ];
+    assert_eq!(rt; seen, [true, true, false]);
     Ok(())
 }
 

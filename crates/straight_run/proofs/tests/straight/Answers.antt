@@ -1,4 +1,4 @@
-use Rattle.std.proofs.Common.{◌≡◌, ◌∙◌, ◌++◌, ◌∷◌, [], Some, List, ap}
+use Rattle.std.proofs.Common.{◌≡◌, ◌∙◌, ◌++◌, ◌∷◌, [], Some, List, refl, ap}
 use Rattle.trace_ops.specs.declared.trace.Op.{Op}
 use Rattle.straight_run.proofs.Tried.{tried}
 use Rattle.straight_run.proofs.tests.straight.Goals as goal
@@ -12,4 +12,4 @@ returns c =
     let l = c.in_ok-last.ensures {u = tt} in
     let x = c.operation-first.result in
     let ops = joined c.of-ops.result c.push.new.self c.push-2.new.self x c.in_ok-last.last (c.of-ops.ensures ∙ c.new.ensures.items) ((c.in_ok-push.ensures {u = tt}).ok) ((c.in_ok-push-2.ensures {u = tt}).ok) in
-    tried _ x c.in_ok-last.last c.args.code c.args.args (c.in_ok-inputs.ensures {u = tt}) ops h.code h.args c.requires.arity c.requires.scoped (h.made ∙ ap Some c.integer.ensures) l.code l.args
+    record { origin = refl; straight = tried _ x c.in_ok-last.last c.args.code c.args.args (c.in_ok-inputs.ensures {u = tt}) ops h.code h.args c.requires.arity c.requires.scoped (h.made ∙ ap Some c.integer.ensures) l.code l.args }

@@ -1,8 +1,6 @@
 -- Texts that are written piece by piece.
 use Rattle.std.proofs.Common.{◌≡◌, ℕ, List, ◌++◌, ap, ◌∙◌, append_assoc}
 use Rattle.std.specs.Prelude.{Result, Ok, Err, OnOk}
-use Rattle.tj_app.specs.declared.selection.Handed.{Handed}
-use Rattle.tj_app.specs.Output.{base_text, entry_text, exit_text}
 
 pub on_ok : {T E : Type 0} (r : Result T E) (P Q : Type 0) → (P → Q) → OnOk r P → OnOk r Q
 on_ok (Ok x) P Q f h = f h
@@ -19,9 +17,3 @@ joined4 o o1 o2 o3 o4 a b c d e1 e2 e3 e4 =
 pub joined5 : (o o1 o2 o3 o4 o5 a b c d e : List ℕ) → o1 ≡ o ++ a → o2 ≡ o1 ++ b → o3 ≡ o2 ++ c → o4 ≡ o3 ++ d → o5 ≡ o4 ++ e → o5 ≡ o ++ (a ++ (b ++ (c ++ (d ++ e))))
 joined5 o o1 o2 o3 o4 o5 a b c d e e1 e2 e3 e4 e5 =
     joined4 o1 o2 o3 o4 o5 b c d e e2 e3 e4 e5 ∙ ap (λ x. x ++ (b ++ (c ++ (d ++ e)))) e1 ∙ append_assoc o a (b ++ (c ++ (d ++ e)))
-
-pub named : (o code code' n1 n2 name : List ℕ) (h : Handed) → code ≡ code' → n1 ≡ name → n2 ≡ name → o ++ (base_text code ++ (entry_text n1 ++ exit_text n2 h)) ≡ o ++ (base_text code' ++ (entry_text name ++ exit_text name h))
-named o code code' n1 n2 name h e1 e2 e3 =
-    ap (λ x. o ++ (base_text x ++ (entry_text n1 ++ exit_text n2 h))) e1
-    ∙ ap (λ x. o ++ (base_text code' ++ (entry_text x ++ exit_text n2 h))) e2
-    ∙ ap (λ x. o ++ (base_text code' ++ (entry_text name ++ exit_text x h))) e3

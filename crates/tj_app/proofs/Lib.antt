@@ -1,4 +1,6 @@
-pub mod Selecting
 pub mod Joined
-pub mod Counting
-pub mod Running
+pub mod OnlyBuilt
+pub mod OneStart
+pub mod SeenLines
+pub mod Ready
+pub mod Answerable

@@ -1,8 +1,9 @@
-pub mod Selected
-pub mod Sound
-pub mod Session
 pub mod Output
+pub mod Session
+pub mod Running
 pub mod Refusing
 pub mod Asking
 pub mod Checking
+pub mod Unbuilt
+pub mod Telling
 pub mod Top

@@ -4,6 +4,8 @@ use Rattle.std.specs.Io.KnownBytes.{Appends}
 use Rattle.std.specs.Fmt.{decimal}
 use Rattle.trace_ops.specs.declared.table.What.{What}
 use Rattle.trace_ops.specs.declared.table.What.TheVariants as what
+use Rattle.session_text.specs.declared.fault.Reason.{Reason}
+use Rattle.session_text.specs.declared.fault.Reason.TheVariants as reason
 use Rattle.tj_app.specs.declared.ending.Status.{Status}
 use Rattle.tj_app.specs.declared.ending.Status.TheVariants as status
 use Rattle.tj_app.specs.declared.refusal.Fault.{Fault}
@@ -69,6 +71,17 @@ rule_text name op rule = of_trace name ++ of_rule op rule
 abbrev pub limit_text : List ℕ → ℕ → List ℕ
 limit_text what count = codes "error limit " ++ (what ++ (codes " " ++ (decimal count ++ codes "\n")))
 
+-- why a line of a session is refused
+abbrev pub session_text : Reason → List ℕ
+session_text reason.Shape = codes "session shape"
+session_text reason.Twice = codes "session twice"
+session_text reason.Name = codes "session name"
+session_text reason.Inputs = codes "session inputs"
+
+-- `error not built WHAT`
+abbrev pub unbuilt_text : List ℕ → List ℕ
+unbuilt_text what = codes "error not built " ++ (what ++ codes "\n")
+
 -- the line that is written for a fault
 abbrev pub fault_text : Fault → List ℕ
 fault_text (fault.Syntax line) = line_text line (codes "syntax")
@@ -80,11 +93,12 @@ fault_text (fault.Twice line) = line_text line (codes "defined twice")
 fault_text (fault.UnknownName line) = line_text line (codes "unknown name")
 fault_text (fault.BadInitial line) = line_text line (codes "bad initial value")
 fault_text (fault.IllFormed trace name op rule) = rule_text name op rule
+fault_text (fault.SessionBad line reason) = line_text line (session_text reason)
 fault_text fault.Usage = codes "error usage\n"
 fault_text fault.Read = codes "error read\n"
 fault_text (fault.Limit what count) = limit_text (what_text what) count
 fault_text fault.Memory = codes "error memory\n"
-fault_text (fault.NotBuilt line) = line_text line (codes "not built")
+fault_text (fault.NotBuilt what) = unbuilt_text what
 
 -- the text was taken and the status is this one, or the sink failed
 abbrev pub Says : Status → List ℕ → Option (List ℕ) → Option (List ℕ) → Status → Type 0

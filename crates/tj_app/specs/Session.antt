@@ -1,63 +1,83 @@
--- An activation of a printed image.
-use Rattle.std.specs.Prelude.{◌≡◌, ℕ, zero, suc, ◌+◌, ◌*◌, ◌==◌, if◌then◌else◌, List, [], Option, Some, None, ℤ, pos, slice_index_or}
-use Rattle.std.specs.Int.{w64, cast_unsigned}
-use Rattle.x64_machine.specs.declared.state.Stop.{Stop}
-use Rattle.x64_machine.specs.declared.state.Stop.TheVariants.{Returned, HostCall, BadAddress, BadCode, UndefinedFlag}
-use Rattle.x64_machine.specs.declared.state.Turn.{Turn}
-use Rattle.x64_machine.specs.declared.state.Turn.TheVariants.{Went, Stopped}
-use Rattle.x64_machine.specs.Start.{IsStart}
-use Rattle.x64_machine.specs.State.{State, Acted, acted, reg, counts_of}
-use Rattle.x64_machine.specs.Step.{MachineStep}
-use Rattle.tj_app.specs.declared.selection.Handed.{Handed}
-use Rattle.tj_app.specs.declared.selection.Handed.TheVariants.{Nothing, Word, Box}
-use Rattle.tj_app.specs.declared.selection.Image.{Image}
-use Rattle.tj_app.specs.declared.session.Now.{Now}
-use Rattle.tj_app.specs.declared.session.Now.TheVariants.{Going, Finished, Wrong}
-use Rattle.tj_app.specs.declared.session.Observed.{Observed}
-use Rattle.tj_app.specs.Selected.{register}
+-- What is seen of a session with one activation, over its image.
+use Rattle.std.specs.Prelude.{◌≡◌, ℕ, ◌+◌, ◌*◌, ◌≤◌, ℤ, pos, Bool, true, false, List, [], ◌∷◌, ◌++◌, length, map}
+use Rattle.trace_meaning.specs.declared.call.Answer.{Answer}
+use Rattle.trace_meaning.specs.declared.value.Value.{Value}
+use Rattle.trace_meaning.specs.declared.value.Value.TheVariants as v
+use Rattle.session_text.specs.declared.session.Line.{Line}
+use Rattle.session_text.specs.declared.session.Line.TheVariants as line
+use Rattle.session_text.specs.declared.session.SessionText.{SessionText}
+use Rattle.straight_run.specs.declared.image.Image.{Image}
+use Rattle.straight_run.specs.declared.session.Observed.{Observed}
+use Rattle.straight_run.specs.declared.session.Now.{Now}
+use Rattle.straight_run.specs.declared.session.Now.TheVariants.{Going, Finished, Wrong}
+use Rattle.straight_run.specs.Session.{IsActivation}
+use Rattle.tj_app.specs.Output.{state_text, started_text, ended_text}
 
--- the value of the finish that the exit names: a box is read at its place
-abbrev pub value_of : Handed → State → Option ℤ
-value_of Nothing s = None
-value_of (Word v) s = Some v
-value_of (Box k) s = Some (slice_index_or s.frame (16 + k) (pos 0))
+-- the word of an integer; an activation of loops of integers is given nothing else
+abbrev pub word_of : Value → ℤ
+word_of (v.Int w) = w
+word_of _ = pos 0
 
--- a return to the host ends the activation as the exit says whose number is in rax; there is exit 0 alone
-abbrev pub returned : Handed → State → ℕ → Now
-returned handed s exit = if exit == 0 then Finished (value_of handed s) else Wrong exit
+abbrev pub has_ended : Now → Bool
+has_ended Going = false
+has_ended (Finished value) = true
+has_ended (Wrong at) = true
 
--- an activation that stands for this reason
-abbrev pub stopped : Handed → State → Stop → Now
-stopped handed s Returned = returned handed s (cast_unsigned w64 (reg s (register 0)))
-stopped handed s (HostCall entry) = Wrong (0x30000000 + 16 * entry)
-stopped handed s (BadAddress at) = Wrong at
-stopped handed s (BadCode at) = Wrong at
-stopped handed s (UndefinedFlag at) = Wrong at
+-- the number of a line `run A n`
+abbrev pub number_of : Line → ℕ
+number_of (line.Run a n) = n
+number_of _ = 0
 
-abbrev pub now_at : Handed → State → Turn → Now
-now_at handed s Went = Going
-now_at handed s (Stopped stop) = stopped handed s stop
+-- how many instructions the line may make: (n + 1) times the code's length
+abbrev pub budget : Image → Line → ℕ
+budget image l = (number_of l + 1) * length image.code
 
--- a machine that stands stays, and another one goes on
-abbrev pub GoesOn : Turn → State → (State → Acted → Type 0) → Acted → Type 0
-GoesOn Went s next done = next s done
-GoesOn (Stopped stop) s next done = done ≡ acted (Stopped stop) s
+-- The text of `run` lines, of which m instructions were allowed before, where the activation has ended or has not. An
+-- activation that has ended stays, and each later line says so.
+abbrev pub AreSeen : Image → ℕ → List ℤ → List ℕ → ℕ → Bool → List Line → List ℕ → Type 0
+AreSeen image k inputs name m ended [] text = text ≡ []
+AreSeen image k inputs name m true (l ∷ more) text =
+    (rest : List ℕ) × AreSeen image k inputs name m true more rest × (text ≡ ended_text name ++ rest)
+AreSeen image k inputs name m false (l ∷ more) text =
+    (seen : Observed) × (rest : List ℕ) × IsActivation image k inputs (m + budget image l) seen
+    × AreSeen image k inputs name (m + budget image l) (has_ended seen.state) more rest × (text ≡ state_text name seen ++ rest)
 
--- at most m steps on the code lead from a machine to another, which stands or has gone on
-abbrev pub Runs : List ℕ → ℕ → State → Acted → Type 0
-Runs code zero s done = done ≡ acted Went s
-Runs code (suc m) s done = (turn : Turn) × (t : State) × MachineStep code s (acted turn t) × GoesOn turn t (Runs code m) done
+-- the text of the lines was added
+abbrev pub AddsRuns : Image → ℕ → List ℤ → List ℕ → List Line → List ℕ → List ℕ → Type 0
+AddsRuns image k inputs name runs old new = (text : List ℕ) × AreSeen image k inputs name 0 false runs text × (new ≡ old ++ text)
 
--- the machine of an activation before its first instruction: an arena of a mebibyte, none of it taken, the entry at 0
-abbrev pub Starts : List ℤ → State → Type 0
-Starts inputs s = IsStart 1048576 [] 0 inputs s
+-- the text of one line was added: so many instructions were allowed before it and behind it, and the activation had and has ended
+abbrev pub AddsLine : Image → ℕ → List ℤ → List ℕ → Line → ℕ → Bool → List ℕ → List ℕ → ℕ → Bool → Type 0
+AddsLine image k inputs name l m true old new m' ended = (new ≡ old ++ ended_text name) × (m' ≡ m) × (ended ≡ true)
+AddsLine image k inputs name l m false old new m' ended =
+    (seen : Observed) × IsActivation image k inputs (m + budget image l) seen × (new ≡ old ++ state_text name seen) × (m' ≡ m + budget image l) × (ended ≡ has_ended seen.state)
 
--- what is seen of an activation of the image on these inputs, after at most m instructions
-pub record IsActivation (image : Image) (inputs : List ℤ) (m : ℕ) (seen : Observed) : Type 0 where
-  pub first : State
-  pub last : State
-  pub turn : Turn
-  pub starts : Starts inputs first
-  pub runs : Runs image.code m first (acted turn last)
-  pub state : seen.state ≡ now_at image.handed last turn
-  pub counts : seen.counts ≡ counts_of last
+-- the state after so many instructions was added, and this tells whether it has ended
+abbrev pub AddsState : Image → ℕ → List ℤ → List ℕ → ℕ → List ℕ → List ℕ → Bool → Type 0
+AddsState image k inputs name m old new ended = (seen : Observed) × IsActivation image k inputs m seen × (new ≡ old ++ state_text name seen) × (ended ≡ has_ended seen.state)
+
+-- the line's number is lawful
+abbrev pub IsBrief : Line → Type 0
+IsBrief l = number_of l ≤ 1000000
+
+-- lines `run A n`, each with a lawful number
+abbrev pub AreRuns : List Line → Type 0
+AreRuns [] = Unit {0}
+AreRuns (line.Run a n ∷ more) = (n ≤ 1000000) × AreRuns more
+AreRuns (_ ∷ more) = ⊥
+
+-- the session is one start, and then runs
+abbrev pub IsOneStart : SessionText → List ℕ → ℕ → List Value → List Line → Type 0
+IsOneStart session name loop inputs runs =
+    (answers : List Answer) × (session.lines ≡ line.Start 0 loop inputs answers ∷ runs) × (session.names ≡ name ∷ []) × AreRuns runs
+
+-- The text of the session: the activation of a loop is started on its inputs, and is run line by line.
+pub record IsSeen (image : Image) (session : SessionText) (text : List ℕ) : Type 0 where
+  pub name : List ℕ
+  pub loop : ℕ
+  pub inputs : List Value
+  pub runs : List Line
+  pub one : IsOneStart session name loop inputs runs
+  pub behind : List ℕ
+  pub seen : AreSeen image loop (map word_of inputs) name 0 false runs behind
+  pub written : text ≡ started_text name ++ behind

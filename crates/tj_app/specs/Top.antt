@@ -1,42 +1,57 @@
 -- What the program does with an input.
-use Rattle.std.specs.Prelude.{◌≡◌, ℕ, ◌+◌, ◌*◌, ◌≤◌, ◌⊎◌, List, ◌++◌, length, Option}
+use Rattle.std.specs.Prelude.{◌≡◌, ℕ, ◌≤◌, ◌⊎◌, ℤ, Option, Some, List, [], ◌++◌, length, slice_get}
+use Rattle.std.specs.List.{All}
 use Rattle.std.specs.Io.KnownBytes.{Consumes, IsAtEnd, Appends}
 use Rattle.io_edge.specs.Causes.{Rose}
+use Rattle.trace_ops.specs.declared.trace.Trace.{Trace}
+use Rattle.trace_ops.specs.declared.trace.TraceSet.{TraceSet}
+use Rattle.trace_ops.specs.Words.{IsWord}
+use Rattle.trace_meaning.specs.declared.call.Answer.{Answer}
+use Rattle.trace_meaning.specs.Cuts.{Cuts}
 use Rattle.trace_ops.specs.declared.table.What.{What}
 use Rattle.trace_ops.specs.declared.table.What.TheVariants as counted
-use Rattle.tj_app.specs.declared.input.Program.{Program}
-use Rattle.tj_app.specs.declared.selection.Image.{Image}
-use Rattle.tj_app.specs.declared.session.Observed.{Observed}
+use Rattle.session_text.specs.declared.session.SessionText.{SessionText}
+use Rattle.straight_run.specs.declared.image.Image.{Image}
+use Rattle.straight_run.specs.Layout.{AreStraight, IsImage}
+use Rattle.straight_run.specs.Behaving.{Behaves}
+use Rattle.trace_check.specs.Faults.{IsChecked}
+use Rattle.x64_encode.specs.Listing.{IsWhole}
 use Rattle.tj_app.specs.declared.ending.Status.{Status}
 use Rattle.tj_app.specs.declared.refusal.Fault.{Fault}
-use Rattle.tj_app.specs.declared.refusal.Fault.TheVariants.{Syntax, Float, UnknownOp, UnknownDescr, UnknownBox, Twice, UnknownName, BadInitial, IllFormed, Usage, Read, Limit, Memory, NotBuilt}
+use Rattle.tj_app.specs.declared.refusal.Fault.TheVariants.{Syntax, Float, UnknownOp, UnknownDescr, UnknownBox, Twice, UnknownName, BadInitial, IllFormed, SessionBad, Usage, Read, Limit, Memory, NotBuilt}
 use Rattle.tj_app.specs.declared.words.Command.{Command}
-use Rattle.tj_app.specs.declared.words.Command.TheVariants.{Check, Run}
+use Rattle.tj_app.specs.declared.words.Command.TheVariants.{Check, Opt, Image as ImageOf, Run, Gen}
 use Rattle.tj_app.specs.Asking.{Asks}
-use Rattle.tj_app.specs.Checking.{IsCounted, IsBad}
+use Rattle.tj_app.specs.Checking.{StandsFor, IsCounted, IsBad}
+use Rattle.tj_app.specs.Telling.{IsBuilt, IsUntold}
 use Rattle.tj_app.specs.Refusing.{status_of, fault_text}
-use Rattle.tj_app.specs.Sound.{IsSound, IsSelected}
-use Rattle.tj_app.specs.Session.{IsActivation}
-use Rattle.tj_app.specs.Output.{image_text, seen_text}
+use Rattle.tj_app.specs.Session.{IsSeen}
+use Rattle.tj_app.specs.Output.{image_text}
 
--- how many instructions the session's line may make
-abbrev pub budget : Program → Image → ℕ
-budget p image = (p.turns + 1) * length image.code
+-- the image does what each loop does: for all inputs that are words, and as many as the loop's, whatever the answers and cuts
+abbrev pub AllBehave : TraceSet → Image → Type 0
+AllBehave set image =
+    (number : ℕ) (trace : Trace) (inputs : List ℤ) (answers : List Answer) (cuts : Cuts) → slice_get set.traces number ≡ Some trace → length inputs ≡ length trace.inputs → All IsWord inputs → Behaves set number image inputs answers cuts
 
--- The text is that of an image, which is selected for the program, and of the session over this same image.
-pub record Ran (input text : List ℕ) : Type 0 where
-  pub program : Program
-  pub sound : IsSound program
+-- The input stands for a set of straight loops and a session; the text is that of an image of these loops and of the
+-- session over this same image; and the image does what the recorded traces do, for all inputs, its code being whole.
+pub record Ran (command : Command) (input text : List ℕ) : Type 0 where
+  pub set : TraceSet
+  pub session : SessionText
+  pub told : IsBuilt command input set session
+  pub straight : AreStraight set
   pub image : Image
-  pub selected : IsSelected program image
-  pub seen : Observed
-  pub run : IsActivation image program.words (budget program image) seen
-  pub written : text ≡ image_text program image ++ seen_text program seen
+  pub compiled : IsImage set image
+  pub seen : List ℕ
+  pub run : IsSeen image session seen
+  pub written : text ≡ image_text set image ++ seen
+  pub behaves : AllBehave set image
+  pub whole : IsWhole image.code
 
 -- the text that a command writes for an input
 abbrev pub IsTextFor : Command → List ℕ → List ℕ → Type 0
 IsTextFor Check input text = IsCounted input text
-IsTextFor (Run arena) input text = Ran input text
+IsTextFor command input text = Ran command input text
 
 -- all of the source was read: it gave this input, of at most 16 MiB
 pub record IsRead (left left' : Option (List ℕ)) (input : List ℕ) : Type 0 where
@@ -44,10 +59,15 @@ pub record IsRead (left left' : Option (List ℕ)) (input : List ℕ) : Type 0 w
   pub ended : IsAtEnd left'
   pub within : length input ≤ 16777216
 
--- all of the source was read, and this is the command's text for it
+-- the input of the command: all of the source; `gen` reads nothing
+abbrev pub IsInput : Command → Option (List ℕ) → Option (List ℕ) → List ℕ → Type 0
+IsInput (Gen number size) left left' input = (input ≡ []) × (left' ≡ left)
+IsInput _ left left' input = IsRead left left' input
+
+-- this is the command's text for its input
 pub record Answers (command : Command) (left left' : Option (List ℕ)) (text : List ℕ) : Type 0 where
   pub input : List ℕ
-  pub read : IsRead left left' input
+  pub read : IsInput command left left' input
   pub answer : IsTextFor command input text
 
 -- the text for the input was taken by the sink
@@ -58,20 +78,19 @@ pub record Done (words : List (List ℕ)) (left left' taken taken' : Option (Lis
   pub answers : Answers command left left' text
   pub written : Appends taken taken' text
 
--- a line of today's reader, or memory was wanting
-abbrev pub IsUnread : Fault → Type 0
-IsUnread (NotBuilt line) = Unit {0}
-IsUnread Memory = Unit {0}
-IsUnread _ = ⊥
-
 -- what stands behind a refusal of an input by a command
 abbrev pub IsRefusedBy : Command → List ℕ → Fault → Type 0
 IsRefusedBy Check input f = IsBad input f
-IsRefusedBy (Run arena) input f = IsUnread f
+IsRefusedBy command input f = IsUntold command input f
 
--- all was read, and the command refuses it
+-- the input is right, and nothing that isn't built is needed for it
+abbrev pub IsAnswerable : Command → List ℕ → Type 0
+IsAnswerable Check input = (set : TraceSet) × StandsFor input set × IsChecked set
+IsAnswerable command input = (set : TraceSet) × (session : SessionText) × IsBuilt command input set session
+
+-- the command refuses its input
 abbrev pub IsOfInput : Command → Fault → Option (List ℕ) → Option (List ℕ) → Type 0
-IsOfInput command f left left' = (input : List ℕ) × IsRead left left' input × IsRefusedBy command input f
+IsOfInput command f left left' = (input : List ℕ) × IsInput command left left' input × IsRefusedBy command input f
 
 -- one byte more than is allowed was read
 abbrev pub IsTooLong : What → ℕ → Option (List ℕ) → Option (List ℕ) → Type 0
@@ -92,7 +111,8 @@ Causes command (Twice line) left left' faults faults' = IsOfInput command (Twice
 Causes command (UnknownName line) left left' faults faults' = IsOfInput command (UnknownName line) left left'
 Causes command (BadInitial line) left left' faults faults' = IsOfInput command (BadInitial line) left left'
 Causes command (IllFormed trace name op rule) left left' faults faults' = IsOfInput command (IllFormed trace name op rule) left left'
-Causes command (NotBuilt line) left left' faults faults' = IsOfInput command (NotBuilt line) left left'
+Causes command (SessionBad line reason) left left' faults faults' = IsOfInput command (SessionBad line reason) left left'
+Causes command (NotBuilt what) left left' faults faults' = IsOfInput command (NotBuilt what) left left'
 
 -- The status of a fault, what stands behind it, and its line, which is all that was written.
 pub record Refuses (words : List (List ℕ)) (ended : Status) (left left' : Option (List ℕ)) (faults faults' : ℕ) (taken taken' : Option (List ℕ)) : Type 0 where

@@ -18,12 +18,20 @@ pub fn counts(alloc: Global, bytes: &[u8]) -> Result<Vec<u8>, Fault>
     requires { length bytes.now ≤ 16777216 }
     ensures { MatchResult result (λ text. IsCounted bytes.now text.items) (IsBad bytes.now) }
 {
-    let set = set_of(alloc, bytes)?;
-    let checked = checked(alloc, set)?;
+    let checked = checked_set(alloc, bytes)?;
     match counts_text(alloc, checked.set()) {
         Ok(text) => Ok(text),
         Err(_) => Err(Fault::Memory),
     }
+}
+
+/// The well-formed set that an input stands for in front of its session, or why there is none.
+pub fn checked_set(alloc: Global, bytes: &[u8]) -> Result<Checked, Fault>
+    requires { length bytes.now ≤ 16777216 }
+    ensures { MatchResult result (λ c. StandsFor bytes.now c × IsChecked c) (IsBad bytes.now) }
+{
+    let set = set_of(alloc, bytes)?;
+    checked(alloc, set)
 }
 
 fn set_of(alloc: Global, bytes: &[u8]) -> Result<TraceSet, Fault>

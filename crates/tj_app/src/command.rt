@@ -5,29 +5,25 @@ ghost use Rattle.std.specs.Io.KnownBytes.{Appends};
 ghost use Rattle.io_edge.specs.Causes.{Rose};
 ghost use Rattle.tj_app.specs.Asking.{IsNoForm};
 ghost use Rattle.tj_app.specs.Refusing.{fault_text, status_of, Says};
-ghost use Rattle.tj_app.specs.Sound.{IsSound};
-ghost use Rattle.tj_app.specs.Top.{Done, Answers, Causes, IsTextFor, IsRefusedBy, IsUnread, IsRead, Ran, Refuses};
+ghost use Rattle.tj_app.specs.Top.{Done, Answers, Causes, IsTextFor, IsRefusedBy, IsInput, IsRead, Refuses};
 
 use crate::checking::counts;
 use crate::ending::Status;
-use crate::image_text::put_image;
-use crate::input::Program;
-use crate::reader::{ReadFault, read_program};
 use crate::refusal::{Fault, fault_line};
-use crate::seen_text::put_seen;
-use crate::selection::compile;
-use crate::session::run;
+use crate::running::run_text;
 use crate::words::{Command, command_of};
 use io_edge::{ReadEnd, Sink, Source, read_all, write_all};
-use std::alloc::{AllocError, Global};
+use std::alloc::Global;
 use trace_ops::What;
 
 const LIMIT: usize = 16_777_216;
 
 /// Does what the words ask for. `check` reads an input from the source, and writes the counts of the set of traces that
-/// it stands for to the sink; what stands behind its `%session` line is not read. `run` writes an image and what was
-/// seen of its session. A refused input has one line, which is all that is written: first the words are judged, then
-/// the source's reads and the input's length, then its lines, whether the set is well formed, and its weight.
+/// it stands for to the sink; what stands behind its `%session` line is not read. `run` writes an image of the set's
+/// loops and what was seen of the session over it. Of the other forms `opt`, `image` and `gen` aren't built. A refused
+/// input has one line, which is all that is written. First the words are judged, then the source's reads and the
+/// input's length, then its lines, whether the set is well formed, its weight, the session's lines, and at last what
+/// isn't built.
 pub fn serve<S: Source, K: Sink>(
     alloc: Global,
     words: &[String],
@@ -82,14 +78,22 @@ fn refuse<K: Sink>(alloc: Global, fault: &Fault, sink: &mut K) -> Status
 fn answer<S: Source>(alloc: Global, command: Command, src: &mut S) -> Result<Vec<u8>, Fault>
     ensures { MatchResult result (λ text. Answers command (S.left src.old) (S.left src.new) text.items) (λ fault. Causes command fault (S.left src.old) (S.left src.new) (S.faults src.old) (S.faults src.new)) }
 {
-    let bytes = match input(alloc, src) {
-        Ok(bytes) => bytes,
-        Err(fault) => return Err(fault),
-    };
+    let bytes = input(alloc, command, src)?;
     text_for(alloc, command, &bytes)
 }
 
-fn input<S: Source>(alloc: Global, src: &mut S) -> Result<Vec<u8>, Fault>
+// The command's input; `gen` has none.
+fn input<S: Source>(alloc: Global, command: Command, src: &mut S) -> Result<Vec<u8>, Fault>
+    ensures within { IfOk result (λ bytes. length bytes.items ≤ 16777216) }
+    ensures read { MatchResult result (λ bytes. IsInput command (S.left src.old) (S.left src.new) bytes.items) (λ fault. Causes command fault (S.left src.old) (S.left src.new) (S.faults src.old) (S.faults src.new)) }
+{
+    match command {
+        Command::Gen { number: _, size: _ } => Ok(Vec::new(alloc)),
+        _ => all_of(alloc, src),
+    }
+}
+
+fn all_of<S: Source>(alloc: Global, src: &mut S) -> Result<Vec<u8>, Fault>
     ensures { MatchResult result (λ bytes. IsRead (S.left src.old) (S.left src.new) bytes.items) (λ fault. (command : Command) → Causes command fault (S.left src.old) (S.left src.new) (S.faults src.old) (S.faults src.new)) }
 {
     match read_all(alloc, src, LIMIT) {
@@ -110,34 +114,6 @@ fn text_for(alloc: Global, command: Command, bytes: &[u8]) -> Result<Vec<u8>, Fa
 {
     match command {
         Command::Check => counts(alloc, bytes),
-        Command::Run { arena: _ } => run_text(alloc, bytes),
+        _ => run_text(alloc, command, bytes),
     }
-}
-
-fn run_text(alloc: Global, bytes: &[u8]) -> Result<Vec<u8>, Fault>
-    requires { length bytes.now ≤ 16777216 }
-    ensures { MatchResult result (λ text. Ran bytes.now text.items) IsUnread }
-{
-    let program = match read_program(alloc, bytes) {
-        Ok(program) => program,
-        Err(ReadFault::NotBuilt { line }) => return Err(Fault::NotBuilt { line }),
-        Err(ReadFault::OutOfMemory) => return Err(Fault::Memory),
-    };
-    match text_of(alloc, bytes, &program) {
-        Ok(text) => Ok(text),
-        Err(_) => Err(Fault::Memory),
-    }
-}
-
-fn text_of(alloc: Global, bytes: &[u8], program: &Program) -> Result<Vec<u8>, AllocError>
-    requires { IsSound program.now }
-    ensures { IfOk result (λ text. Ran bytes.now text.items) }
-{
-    let image = compile(alloc, program)?;
-    let mut out = Vec::new(alloc);
-    put_image(&mut out, program, &image)?;
-    let budget = (u64::from(program.turns) + 1) * image.code.items().len() as u64;
-    let seen = run(alloc, &image, program.words.items(), budget)?;
-    put_seen(&mut out, program, &seen)?;
-    Ok(out)
 }

@@ -1,15 +1,16 @@
 //! Why the program refuses, and the line that says so.
 ghost use Rattle.std.specs.Prelude.{◌≡◌, ◌++◌, [], IfOk, OnOk};
-ghost use Rattle.tj_app.specs.Refusing.{status_of, fault_text, line_text, what_text, rule_text, limit_text, of_trace, of_rule};
+ghost use Rattle.tj_app.specs.Refusing.{status_of, fault_text, line_text, what_text, rule_text, limit_text, of_trace, of_rule, session_text, unbuilt_text};
 
 use crate::ending::Status;
 use crate::puts::{put, put_number};
+use session_text::Reason;
 use std::alloc::{AllocError, Global};
 use trace_ops::{Text, What};
 
 /// Why the program refuses: a line of the input, by its number from 1; the least trace, operation and rule of a set
 /// that is not well formed; the words; a read that failed; a limit, with the count that passes it; want of memory; or
-/// a line that no built command reads.
+/// something that isn't built yet.
 #[derive(Clone, Copy, Debug)]
 pub enum Fault {
     Syntax {
@@ -42,6 +43,10 @@ pub enum Fault {
         op: u32,
         rule: u8,
     },
+    SessionBad {
+        line: u32,
+        reason: Reason,
+    },
     Usage,
     Read,
     Limit {
@@ -50,7 +55,7 @@ pub enum Fault {
     },
     Memory,
     NotBuilt {
-        line: u32,
+        what: Text,
     },
 }
 
@@ -88,11 +93,12 @@ pub fn fault_line(alloc: Global, fault: &Fault) -> Result<Vec<u8>, AllocError>
             op,
             rule,
         } => rule_fault(alloc, name.bytes(), *op, *rule),
+        Fault::SessionBad { line, reason } => line_fault(alloc, *line, session_word(*reason)),
         Fault::Usage => Vec::from_slice(alloc, b"error usage\n"),
         Fault::Read => Vec::from_slice(alloc, b"error read\n"),
         Fault::Limit { what, count } => limit_fault(alloc, *what, *count),
         Fault::Memory => Vec::from_slice(alloc, b"error memory\n"),
-        Fault::NotBuilt { line } => line_fault(alloc, *line, b"not built"),
+        Fault::NotBuilt { what } => unbuilt_fault(alloc, what.bytes()),
     }
 }
 
@@ -104,6 +110,28 @@ fn line_fault(alloc: Global, line: u32, why: &[u8]) -> Result<Vec<u8>, AllocErro
     put_number(&mut out, u64::from(line))?;
     put(&mut out, b": ")?;
     put(&mut out, why)?;
+    put(&mut out, b"\n")?;
+    Ok(out)
+}
+
+// Why a line of a session is refused.
+fn session_word(reason: Reason) -> &'static [u8]
+    ensures { result.now ≡ session_text reason }
+{
+    match reason {
+        Reason::Shape => b"session shape",
+        Reason::Twice => b"session twice",
+        Reason::Name => b"session name",
+        Reason::Inputs => b"session inputs",
+    }
+}
+
+fn unbuilt_fault(alloc: Global, what: &[u8]) -> Result<Vec<u8>, AllocError>
+    ensures { IfOk result (λ v. v.items ≡ unbuilt_text what.now) }
+{
+    let mut out = Vec::new(alloc);
+    put(&mut out, b"error not built ")?;
+    put(&mut out, what)?;
     put(&mut out, b"\n")?;
     Ok(out)
 }

@@ -4,8 +4,8 @@ use Rattle.tj_app.proofs.checking.counts.Goals as goal
 
 pub returns-in-Ok : goal.returns-in-Ok
 returns-in-Ok c = record {
-  set = c.in_ok-set.set;
-  stands = c.in_ok-set.ensures.0;
+  set = c.in_ok-checked.checked;
+  stands = c.in_ok-checked.ensures.0;
   checked = c.in_ok-checked.ensures.1;
-  written = c.in-Ok.ensures ∙ ap ok_text (c.set.ensures.value ∙ c.in_ok-checked.ensures.0);
+  written = c.in-Ok.ensures ∙ ap ok_text c.set.ensures.value;
 }

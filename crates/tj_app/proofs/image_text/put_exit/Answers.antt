@@ -1,5 +1,0 @@
-use Rattle.tj_app.proofs.Joined.{on_ok, joined5}
-use Rattle.tj_app.proofs.image_text.put_exit.Goals as goal
-
-pub returns : goal.returns
-returns c = on_ok c.put-4.result _ _ (λ e. joined5 _ _ _ _ _ _ _ _ _ _ _ c.in_ok-put.ensures c.in_ok-put-2.ensures c.in_ok-put-3.ensures c.in_ok-put_places.ensures e) c.put-4.ensures

@@ -1,0 +1,71 @@
+//! What an input tells: a checked set of traces, and the lines of its session.
+ghost use Rattle.std.specs.Prelude.{◌≡◌, ◌≤◌, [], Ok, length, MatchResult, IfOk};
+ghost use Rattle.trace_ops.specs.InRange.{IsInRange};
+ghost use Rattle.trace_text.specs.Sections.{session_part};
+ghost use Rattle.session_text.specs.Fits.{FitsSet};
+ghost use Rattle.tj_app.specs.Telling.{session_in, session_fault, IsRefusedSession, IsUntold, IsBuilt};
+
+use crate::checking::checked_set;
+use crate::refusal::Fault;
+use crate::unbuilt::first_need;
+use crate::words::Command;
+use session_text::{SessionFault, SessionText, session_of};
+use std::alloc::Global;
+use trace_check::Checked;
+use trace_ops::{List, TraceSet};
+use trace_text::session_part;
+
+/// A well-formed set, and a session over it.
+#[derive(Drop)]
+pub struct Usable {
+    pub checked: Checked,
+    pub session: SessionText,
+}
+
+/// The set and the session of an input that a command can use, or why there is none.
+pub fn read_usable(alloc: Global, command: Command, bytes: &[u8]) -> Result<Usable, Fault>
+    requires { length bytes.now ≤ 16777216 }
+    ensures { MatchResult result (λ t. IsBuilt command bytes.now t.checked t.session × FitsSet t.checked t.session) (IsUntold command bytes.now) }
+{
+    let checked = checked_set(alloc, bytes)?;
+    let session = session_over(alloc, bytes, checked.set())?;
+    match first_need(command, checked.set(), &session) {
+        None => Ok(Usable { checked, session }),
+        Some(what) => Err(Fault::NotBuilt { what: what.name() }),
+    }
+}
+
+// The session of an input over its set.
+fn session_over(alloc: Global, bytes: &[u8], set: &TraceSet) -> Result<SessionText, Fault>
+    requires within { length bytes.now ≤ 16777216 }
+    requires range { IsInRange set.now }
+    ensures told { MatchResult result (λ session. session_in set.now (session_part bytes.now) ≡ Ok session) (IsRefusedSession set.now (session_part bytes.now)) }
+    ensures fits { IfOk result (FitsSet set.now) }
+{
+    let Some((text, first_line)) = session_part(bytes) else {
+        return Ok(no_session(alloc));
+    };
+    match session_of(alloc, text, first_line, set) {
+        Ok(session) => Ok(session),
+        Err(why) => Err(session_fault(why)),
+    }
+}
+
+fn no_session(alloc: Global) -> SessionText
+    ensures { result ≡ record { lines = []; names = [] } }
+{
+    SessionText {
+        lines: List::of(Vec::new(alloc)),
+        names: List::of(Vec::new(alloc)),
+    }
+}
+
+fn session_fault(why: SessionFault) -> Fault
+    ensures { result ≡ session_fault why }
+{
+    match why {
+        SessionFault::SessionBad { line, reason } => Fault::SessionBad { line, reason },
+        SessionFault::Limit { what, count } => Fault::Limit { what, count },
+        SessionFault::OutOfMemory => Fault::Memory,
+    }
+}

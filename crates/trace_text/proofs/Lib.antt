@@ -27,3 +27,4 @@ pub mod TracesBack
 pub mod SectionsBack
 pub mod RoundTrip
 pub mod WordsOfSets
+pub mod Merges

@@ -10,3 +10,4 @@ pub mod Sections
 pub mod Writing
 pub mod Spelling
 pub mod Constants
+pub mod Merging

@@ -1,6 +1,6 @@
 //! What lines are read as, and which line decides.
 
-ghost use Rattle.std.specs.Prelude.{◌≡◌, ℕ, List, Some, Ok, Err};
+ghost use Rattle.std.specs.Prelude.{◌≡◌, ℕ, List, Some, Ok, Err, true};
 ghost use Rattle.text_lines.specs.Lines.{lines};
 ghost use Rattle.text_lines.specs.FirstBad.{IsFirstBad};
 ghost use Rattle.trace_ops.specs.declared.trace.TraceSet.{TraceSet};
@@ -11,7 +11,8 @@ ghost use Rattle.trace_text.specs.declared.line.Slots.{Slots};
 ghost use Rattle.trace_text.specs.declared.fault.TextFault.{TextFault};
 ghost use Rattle.trace_text.specs.Names.{Names};
 ghost use Rattle.trace_text.specs.Line.{op_at, inputs_at};
-ghost use Rattle.trace_text.specs.Heading.{heading_at};
+ghost use Rattle.trace_text.specs.Heading.{heading_at, is_merge};
+ghost use Rattle.trace_text.specs.Merging.{SpellsMerge};
 ghost use Rattle.trace_text.specs.Spelling.{Parts, parts_of, SpellsLine, SpellsSnapshot, SpellsHeading};
 ghost use Rattle.trace_text.specs.Constants.{HasWords};
 ghost use Rattle.trace_text.specs.Draft.{nothing, read_line, lines_at};
@@ -23,10 +24,12 @@ pub fn line_laws()
     ensures spelled { (names : Names) (ws : List (List ℕ)) (p : Parts) → SpellsLine names ws p → (l : Line) × (op_at names ws ≡ Some l) × (parts_of l ≡ p) }
 {}
 
-/// The same of the line of inputs, which is spelled as a snapshot, and of headings.
+/// The same of the line of inputs, which is spelled as a snapshot, of merge points, and of headings.
 pub fn opening_laws()
     ensures inputs_read { (names : Names) (ws : List (List ℕ)) (l : Line) → inputs_at names ws ≡ Some l → SpellsSnapshot names ws l.frames }
     ensures inputs_spelled { (names : Names) (ws : List (List ℕ)) (fs : List Slots) → SpellsSnapshot names ws fs → (l : Line) × (inputs_at names ws ≡ Some l) × (l.frames ≡ fs) }
+    ensures merge_read { (ws : List (List ℕ)) → is_merge ws ≡ true → SpellsMerge ws }
+    ensures merge_spelled { (ws : List (List ℕ)) → SpellsMerge ws → is_merge ws ≡ true }
     ensures heading_read { (ws : List (List ℕ)) (h : Heading) → heading_at ws ≡ Some h → SpellsHeading ws h }
     ensures heading_spelled { (ws : List (List ℕ)) (h : Heading) → SpellsHeading ws h → heading_at ws ≡ Some h }
 {}

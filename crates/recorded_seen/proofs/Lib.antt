@@ -1,0 +1,5 @@
+pub mod PartsText
+pub mod After
+pub mod Lawful
+pub mod StartLine
+pub mod Showing

@@ -1,0 +1,7 @@
+pub mod Names
+pub mod Values
+pub mod Calls
+pub mod Cells
+pub mod States
+pub mod Sessions
+pub mod Shown

@@ -1,0 +1,25 @@
+//! Adds numbers.
+ghost use Rattle.std.specs.Prelude.{◌≡◌, ◌++◌, OnOk};
+ghost use Rattle.std.specs.Fmt.{decimal};
+ghost use Rattle.recorded_seen.specs.Values.{count_text};
+
+use std::alloc::AllocError;
+
+/// Adds a number in decimal digits.
+pub fn put_number(out: &mut Vec<u8>, number: u64) -> Result<(), AllocError>
+    ensures { OnOk result (out.new.items ≡ out.old.items ++ decimal number) }
+{
+    let text = number.to_string(*out.allocator())?;
+    out.extend_from_slice(text.as_bytes())
+}
+
+/// Adds a line of a word and a count.
+#[tactic(auto, unfolding(crate::specs::Values::count_text))]
+pub fn put_count(out: &mut Vec<u8>, word: &[u8], count: usize) -> Result<(), AllocError>
+    ensures { OnOk result (out.new.items ≡ out.old.items ++ count_text word.now count) }
+{
+    out.extend_from_slice(word)?;
+    put_number(out, count as u64)?;
+    out.push(b'\n')?;
+    Ok(())
+}

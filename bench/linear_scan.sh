@@ -132,15 +132,26 @@ fn places_of(alloc: Global, piece: &Piece) -> Made<Places>
     allocate(alloc, piece, 12, label.as_slice())
 }
 
-// The time of one call for lives and of one for places, each at a piece that was just made, and the frame words.
+// Leaves nothing of a piece in the caches: 64 MB are written.
+fn chill(alloc: Global) -> Made<()> {
+    let mut cells = Vec::new(alloc);
+    for k in 0..8_000_000u64 {
+        cells.push(k)?;
+    }
+    Ok(())
+}
+
+// The time of one call for lives and of one for places, each at a piece that isn't in the caches, and the frame words.
 fn measure(rt: &HostRuntime, boxes: u32, needed: u32) -> Result<(Duration, Duration, u32)>
     requires boxes { (1 ≤ boxes) × (boxes < 2 ^ 20) }
     requires needed { needed ≤ boxes }
 {
     let piece = sums(rt.alloc(), boxes, needed)?;
+    chill(rt.alloc())?;
     let start = Instant::now(rt)?;
     let _ = ranges(rt.alloc(), &piece)?;
     let scanned = start.elapsed(rt)?;
+    chill(rt.alloc())?;
     let start = Instant::now(rt)?;
     let places = places_of(rt.alloc(), &piece)?;
     let placed = start.elapsed(rt)?;

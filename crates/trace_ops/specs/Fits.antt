@@ -32,10 +32,12 @@ abbrev pub IsOfKind : Option Kind → Arg → Type 0
 IsOfKind (Some k) a = kind_of_arg a ≡ Some k
 IsOfKind None a = ⊥
 
+-- the vtable of a size that has one
 abbrev pub IsClass : Table → Arg → Type 0
 IsClass t (arg.Class k) = NamesClass t k
 IsClass t _ = ⊥
 
+-- an argument is what is wanted there
 abbrev pub IsWanted : Table → Descr → Want → Arg → Type 0
 IsWanted t d want.Int a = IsOfKind (Some kind.Int) a
 IsWanted t d want.Ref a = IsOfKind (Some kind.Ref) a
@@ -54,6 +56,7 @@ abbrev pub AreCalled : Table → Descr → List Arg → Type 0
 AreCalled t (descr.Call k) (arg.Func f ∷ rest) = (f < length t.functions) × IsSomeAnd (slice_get t.calls k) (λ (row : CallRow). map kind_of_arg rest ≡ map (λ k. Some k) row.args)
 AreCalled t _ _ = ⊥
 
+-- the arguments are what the operation takes
 abbrev pub FitArgs : Table → Descr → Takes → List Arg → Type 0
 FitArgs t d takes.Nothing [] = Unit {0}
 FitArgs t d (takes.One w) (a ∷ []) = IsWanted t d w a
@@ -71,10 +74,12 @@ abbrev pub IsAsked : Option Kind → Option Kind → Type 0
 IsAsked None have = IsSome have
 IsAsked (Some k) have = have ≡ Some k
 
+-- the size has a vtable exactly where one is asked for
 abbrev pub HasVtable : Bool → SizeRow → Type 0
 HasVtable true row = IsSome row.vtable
 HasVtable false row = row.vtable ≡ None
 
+-- the descr is what the operation cites
 abbrev pub FitsDescr : Table → Cites → Descr → Type 0
 FitsDescr t cites.Nothing descr.No = Unit {0}
 FitsDescr t cites.Anything d = Unit {0}

@@ -29,24 +29,29 @@ unfoldable pub places_from : {X : Type 0} → (X → Bool) → ℕ → List X �
 places_from test k [] = []
 places_from test k (x ∷ xs) = if test x then k ∷ places_from test (k + 1) xs else places_from test (k + 1) xs
 
+-- the fields that are of the size of this row, in rising order
 abbrev pub fields_of_size : Table → ℕ → List ℕ
 fields_of_size t k = places_from (λ (f : FieldRow). nat_eq f.size k) 0 t.fields
 
+-- the prebuilt object that a part names is there
 abbrev pub NamesInitial : Table → Initial → Type 0
 NamesInitial t (initial.Int z) = Unit {0}
 NamesInitial t initial.Null = Unit {0}
 NamesInitial t (initial.Ptr k) = k < length t.prebuilts
 
+-- as many parts as its size or array wants, of the kinds that it wants
 abbrev pub IsPrebuilt : Table → PrebuiltRow → Type 0
 IsPrebuilt t row = HasParts t row.of (map kind_of_initial row.parts) × All (NamesInitial t) row.parts
 
+-- the fields that a call reads and writes are there
 abbrev pub NamesCall : Table → CallRow → Type 0
 NamesCall t row = All (λ f. f < length t.fields) row.reads × All (λ f. f < length t.fields) row.writes
 
+-- the rows that an operation names are there
 abbrev pub NamesOperation : Table → Op → Type 0
 NamesOperation t op = All (NamesArg t) op.args × NamesDescr t op.descr × All (λ (f : Frame). All (NamesArg t) f.slots) op.snapshot
 
--- a box, a constant integer, NULL or a prebuilt object
+-- what an interpreter's frame can hold: no class and no function
 abbrev pub IsSlot : Arg → Type 0
 IsSlot (arg.Of b) = Unit {0}
 IsSlot (arg.Const z) = Unit {0}

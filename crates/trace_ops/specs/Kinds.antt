@@ -30,26 +30,30 @@ kind_of_arg (arg.Class k) = None
 kind_of_arg (arg.Func k) = None
 kind_of_arg (arg.Ptr k) = Some kind.Ref
 
+-- a virtual object is a reference
 abbrev pub kind_of_val : Val → Option Kind
 kind_of_val (Known a) = kind_of_arg a
 kind_of_val (Virtual k) = Some kind.Ref
 
+-- of a part of a prebuilt object
 abbrev pub kind_of_initial : Initial → Option Kind
 kind_of_initial (initial.Int z) = Some kind.Int
 kind_of_initial initial.Null = Some kind.Ref
 kind_of_initial (initial.Ptr k) = Some kind.Ref
 
+-- what the field of this row holds, and the items of the array of this row
 abbrev pub kind_of_field : Table → ℕ → Option Kind
 kind_of_field t f = option_map (λ (row : FieldRow). row.kind) (slice_get t.fields f)
 
 abbrev pub kind_of_item : Table → ℕ → Option Kind
 kind_of_item t a = option_map (λ (row : ArrayRow). row.kind) (slice_get t.arrays a)
 
+-- what the spot holds
 abbrev pub kind_of_spot : Table → Spot → Option Kind
 kind_of_spot t (spot.Field f) = kind_of_field t f
 kind_of_spot t (spot.Item a i) = kind_of_item t a
 
--- one part per field of a size, of its kind, or items of the array's kind
+-- parts of these kinds make such an object: the kinds of the fields of its size, one by one, or all of them its array's
 abbrev pub HasParts : Table → ShapeOf → List (Option Kind) → Type 0
 HasParts t (shape.Size s) kinds = IsSomeAnd (slice_get t.sizes s) (λ (row : SizeRow). kinds ≡ map (kind_of_field t) row.fields)
 HasParts t (shape.Array a) kinds = IsSomeAnd (slice_get t.arrays a) (λ (row : ArrayRow). All (λ k. k ≡ Some row.kind) kinds)
@@ -63,6 +67,7 @@ NamesShape t (shape.Array a) = a < length t.arrays
 abbrev pub NamesClass : Table → ℕ → Type 0
 NamesClass t k = IsSomeAnd (slice_get t.sizes k) (λ (row : SizeRow). IsSome row.vtable)
 
+-- and those that an argument, a value, a spot or a descr names
 abbrev pub NamesArg : Table → Arg → Type 0
 NamesArg t (arg.Of b) = Unit {0}
 NamesArg t (arg.Const z) = Unit {0}

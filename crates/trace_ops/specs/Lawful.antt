@@ -1,4 +1,4 @@
--- What holds of each entry.
+-- What holds of each entry that pieces are made from.
 use Rattle.std.specs.Prelude.{◌≡◌, ℕ, ◌<◌, ◌≤◌, ◌≤ℤ◌, Some, List, [], ◌∷◌, ◌++◌, length, map, IsTrue}
 use Rattle.std.specs.List.{All, Contains, flat_map}
 use Rattle.trace_ops.specs.declared.trace.Kind.TheVariants as kind
@@ -26,6 +26,7 @@ abbrev pub AreDistinct : List BoxId → Type 0
 AreDistinct [] = Unit {0}
 AreDistinct (b ∷ bs) = (¬ Contains bs b) × AreDistinct bs
 
+-- the boxes that a fact tells of
 abbrev pub boxes_of_fact : Fact → List BoxId
 boxes_of_fact (fact.Between b low high) = b ∷ []
 boxes_of_fact (fact.Nonnull b) = b ∷ []
@@ -33,6 +34,7 @@ boxes_of_fact (fact.ClassOf b k) = b ∷ []
 boxes_of_fact (fact.Holds base spot value) = boxes_of_arg base ++ boxes_of_arg value
 boxes_of_fact (fact.Same code args value) = flat_map boxes_of_arg args ++ boxes_of_arg value
 
+-- the boxes in all that is known
 abbrev pub boxes_of_entry : Entry → List BoxId
 boxes_of_entry e = flat_map boxes_of_val e.values ++ flat_map boxes_of_shape e.shapes ++ flat_map boxes_of_pending e.pending ++ flat_map boxes_of_fact e.facts
 
@@ -41,18 +43,20 @@ abbrev pub IsNumbered : ℕ → Val → Type 0
 IsNumbered shapes (Known a) = Unit {0}
 IsNumbered shapes (Virtual k) = k < shapes
 
--- at most 64 items
+-- longer arrays are never virtual
 abbrev pub FewItems : ShapeOf → ℕ → Type 0
 FewItems (shape.Size k) n = Unit {0}
 FewItems (shape.Array k) n = n ≤ 64
 
--- the parts of its size, or at most 64 items, of the right kinds
+-- a part for each field of its size, or a few items, and each part of the kind that is stored there
 abbrev pub IsShapeLawful : Table → Shape → Type 0
 IsShapeLawful t s = HasParts t s.of (map kind_of_val s.parts) × FewItems s.of (length s.parts)
 
+-- the base is a reference, and what is stored is of the kind of a spot that the table has
 abbrev pub IsPendingLawful : Table → Pending → Type 0
 IsPendingLawful t p = (kind_of_arg p.base ≡ Some kind.Ref) × NamesSpot t p.spot × (kind_of_val p.value ≡ kind_of_spot t p.spot)
 
+-- the rows that a pending store names are there
 abbrev pub NamesPending : Table → Pending → Type 0
 NamesPending t p = NamesArg t p.base × NamesSpot t p.spot × NamesVal t p.value
 

@@ -1,9 +1,13 @@
 pub mod Words
+pub mod Constants
+pub mod Rows
+pub mod Told
 pub mod Facts
 pub mod OpNames
 pub mod Folds
 pub mod Parts
 pub mod Weights
+pub mod Equality
 pub mod Kinds
 pub mod InRange
 pub mod Classes

@@ -12,10 +12,12 @@ use Rattle.trace_ops.specs.declared.piece.Pending.{Pending}
 use Rattle.trace_ops.specs.declared.piece.Snapshot.{Snapshot}
 use Rattle.trace_ops.specs.contracts.trace.BoxIdPartialEq.TheImpl as box_eq
 
+-- the box that is the argument
 abbrev pub boxes_of_arg : Arg → List BoxId
 boxes_of_arg (Of b) = b ∷ []
 boxes_of_arg _ = []
 
+-- a virtual object names its boxes by its shape
 abbrev pub boxes_of_val : Val → List BoxId
 boxes_of_val (Known a) = boxes_of_arg a
 boxes_of_val (Virtual k) = []

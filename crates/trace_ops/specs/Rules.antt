@@ -33,7 +33,7 @@ use Rattle.trace_ops.specs.Lawful.{AreDistinct}
 use Rattle.trace_ops.specs.Parts.{boxes_of_arg}
 use Rattle.trace_ops.specs.Weights.{place_of, parent_at}
 
--- 1: the inputs are distinct
+-- 1: no input stands twice
 abbrev pub HasDistinctInputs : Trace → Type 0
 HasDistinctInputs t = AreDistinct t.inputs
 
@@ -41,7 +41,7 @@ HasDistinctInputs t = AreDistinct t.inputs
 abbrev pub known_before : Trace → ℕ → List BoxId
 known_before t k = t.inputs ++ flat_map (λ (op : Op). option_to_list op.result) (take k t.ops)
 
--- 2: a result is no input and no earlier result
+-- 2: what an operation gives was not there before
 abbrev pub GivesNewBox : Trace → ℕ → Op → Type 0
 GivesNewBox t k op = All (λ b. ¬ Contains (known_before t k) b) (option_to_list op.result)
 
@@ -49,7 +49,7 @@ GivesNewBox t k op = All (λ b. ¬ Contains (known_before t k) b) (option_to_lis
 abbrev pub boxes_in : Op → List BoxId
 boxes_in op = flat_map boxes_of_arg op.args ++ flat_map (λ (f : Frame). flat_map boxes_of_arg f.slots) op.snapshot
 
--- 3: each box is an input or an earlier result
+-- 3: what an operation uses was there before
 abbrev pub UsesKnownBoxes : Trace → ℕ → Op → Type 0
 UsesKnownBoxes t k op = All (Contains (known_before t k)) (boxes_in op)
 
@@ -64,6 +64,7 @@ abbrev pub IsStored : Option Kind → Arg → Type 0
 IsStored (Some k) a = kind_of_arg a ≡ Some k
 IsStored None a = IsSome (kind_of_arg a)
 
+-- an argument is what is wanted there, as far as the descr tells
 abbrev pub Suits : Table → Cites → Descr → Want → Arg → Type 0
 Suits t c d want.Stored a = IsStored (stored_kind t c d) a
 Suits t c d want.Int a = IsOfKind (Some kind.Int) a
@@ -84,6 +85,7 @@ abbrev pub AreCalling : Table → Descr → List Arg → Type 0
 AreCalling t d (arg.Func f ∷ rest) = ArePassed t d rest
 AreCalling t d _ = ⊥
 
+-- the arguments are what the operation takes, as far as the descr tells
 abbrev pub AreTaken : Table → Cites → Descr → Takes → List Arg → Type 0
 AreTaken t c d takes.Nothing [] = Unit {0}
 AreTaken t c d (takes.One w) (a ∷ []) = Suits t c d w a
@@ -96,15 +98,15 @@ AreTaken t c d takes.Finished (a ∷ []) = IsSome (kind_of_arg a)
 AreTaken t c d takes.Passed args = Unit {0}
 AreTaken t c d _ _ = ⊥
 
--- 4: number and kinds of arguments fit; those of a jump are a rule of their own
+-- 4: the arguments are what the operation takes; those of a jump are a rule of their own
 abbrev pub TakesItsArguments : Table → Op → Type 0
 TakesItsArguments t op = AreTaken t (cites_of op.code) op.descr (takes_of op.code) op.args
 
--- 5: a result of the operation's kind, or none
+-- 5: it gives a box exactly where it is to give one, and of the right kind
 abbrev pub GivesItsKind : Op → Type 0
 GivesItsKind op = option_map (λ (b : BoxId). b.kind) op.result ≡ gives_of op.code
 
--- 6: the descr is of the class and kind that is wanted
+-- 6: it is about a row of the right sort
 abbrev pub CitesItsDescr : Table → Op → Type 0
 CitesItsDescr t op = FitsDescr t (cites_of op.code) op.descr
 
@@ -136,7 +138,7 @@ ends part.Jump = true
 ends part.Finish = true
 ends _ = false
 
--- 9: a jump or a finish is the last operation, and nothing else is; with at least one operation
+-- 9: a trace ends with a jump or a finish and has no other; with at least one operation
 abbrev pub IsEndOnlyAtEnd : Trace → ℕ → Op → Type 0
 IsEndOnlyAtEnd t k op = IsTrue (ends (part_of op.code)) ↔ (k + 1 ≡ length t.ops)
 
@@ -171,7 +173,7 @@ abbrev pub ComesFrom : TraceSet → Origin → Type 0
 ComesFrom set Loop = Unit {0}
 ComesFrom set (Bridge name k) = IsSome (guard_named set (Bridge name k))
 
--- 12: the parent of a bridge is in the set and has that guard
+-- 12: the guard from which a bridge comes is there
 abbrev pub HasItsParent : TraceSet → Trace → Type 0
 HasItsParent set t = ComesFrom set t.origin
 
@@ -188,7 +190,7 @@ abbrev pub IsFirstFrom : TraceSet → ℕ → Origin → Type 0
 IsFirstFrom set i Loop = Unit {0}
 IsFirstFrom set i (Bridge name k) = (j : ℕ) (t : Trace) → j < i → slice_get set.traces j ≡ Some t → t.origin ≢ Bridge name k
 
--- 13: a bridge takes the slots of its guard, and no earlier bridge names that guard
+-- 13: a bridge begins with the slots of its guard, and is the first one there
 abbrev pub ReceivesItsSlots : TraceSet → ℕ → Trace → Type 0
 ReceivesItsSlots set i t = Receives t.inputs (guard_named set t.origin) × IsFirstFrom set i t.origin
 
@@ -197,7 +199,7 @@ abbrev pub above : TraceSet → ℕ → ℕ → Option ℕ
 above set i zero = Some i
 above set i (suc n) = option_and_then (parent_at set) (above set i n)
 
--- 14: no earlier trace has this name, and the parents go in no circle: the path to them has at most as many places as there are traces
+-- 14: the name is new, and parents end at a loop: no path to them is longer than there are traces
 pub record IsOrdered (set : TraceSet) (i : ℕ) (t : Trace) : Type 0 where
   pub new_name : (j : ℕ) (other : Trace) → j < i → slice_get set.traces j ≡ Some other → other.name ≢ t.name
   pub ends_above : above set i (length set.traces) ≡ None

@@ -8,8 +8,8 @@ use Rattle.trace_ops.specs.declared.piece.Shape.{Shape}
 use Rattle.trace_ops.specs.declared.piece.OptFrame.{OptFrame}
 use Rattle.trace_ops.specs.declared.piece.Pending.{Pending}
 use Rattle.trace_ops.specs.declared.piece.Snapshot.{Snapshot}
-use Rattle.trace_ops.specs.Kinds.{kind_of_arg, kind_of_val}
-use Rattle.trace_ops.specs.Lawful.{IsNumbered, IsShapeLawful}
+use Rattle.trace_ops.specs.Kinds.{kind_of_arg, kind_of_val, NamesShape, NamesVal}
+use Rattle.trace_ops.specs.Lawful.{IsNumbered, IsShapeLawful, IsPendingLawful, NamesPending}
 
 abbrev pub and_then : Option ℕ → (ℕ → Option ℕ) → Option ℕ
 and_then None f = None
@@ -37,7 +37,8 @@ abbrev pub numbered_stores : List Shape → ℕ → List Pending → Option ℕ
 numbered_stores shapes n [] = Some n
 numbered_stores shapes n (p ∷ ps) = and_then (numbered_store shapes n p) (λ m. numbered_stores shapes m ps)
 
--- how many virtuals get a number: those in the frames by first occurrence, then those in parts, then those that are stored
+-- how many virtuals get a number where a snapshot is read in its order: what the frames name, then the parts of what has a
+-- number, and then each stored value with the parts that it brings
 abbrev pub count_of_virtuals : Snapshot → Option ℕ
 count_of_virtuals s =
     and_then (numbered_all 0 (flat_map (λ (f : OptFrame). f.slots) s.frames)) (λ n.
@@ -60,3 +61,11 @@ pub record IsSnapshotSound (t : Table) (s : Snapshot) : Type 0 where
   pub parts_are_values : All (λ (h : Shape). All IsValue h.parts) s.shapes
   pub stored_are_values : All (λ (p : Pending). IsValue p.value) s.pending
   pub bases_are_values : All (λ (p : Pending). IsSome (kind_of_arg p.base)) s.pending
+  pub stores_lawful : All (IsPendingLawful t) s.pending
+
+-- the rows that a snapshot names are there: those of prebuilt objects, of shapes and of the spots of pending stores
+pub record NamesSnapshot (t : Table) (s : Snapshot) : Type 0 where
+  pub slots : All (λ (f : OptFrame). All (NamesVal t) f.slots) s.frames
+  pub shapes : All (λ (h : Shape). NamesShape t h.of) s.shapes
+  pub parts : All (λ (h : Shape). All (NamesVal t) h.parts) s.shapes
+  pub stores : All (NamesPending t) s.pending

@@ -1,3 +1,4 @@
+//! The operations of traces.
 /// The name of a recorded operation.
 #[derive(Clone, Copy, Debug, PartialEq, Eq, Hash)]
 pub enum OpCode {

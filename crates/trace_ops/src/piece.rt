@@ -1,3 +1,4 @@
+//! The data of optimised traces, and of what is known where one begins.
 ghost use Rattle.std.specs.Prelude.{◌≡◌, IfOk};
 
 use crate::{Arg, BoxId, CopyIn, Descr, List, OpCode, ShapeOf, Text, Word};
@@ -10,7 +11,7 @@ pub enum Val {
     Virtual(u32),
 }
 
-/// A virtual object.
+/// A virtual object: what it would be, and what its fields or items hold.
 #[derive(Debug, PartialEq, Eq, Hash, Drop)]
 pub struct Shape {
     pub of: ShapeOf,
@@ -32,6 +33,7 @@ pub struct Pending {
     pub value: Val,
 }
 
+/// A frame of a guard of a piece: as recorded, with slots that may be virtual objects.
 #[derive(Debug, PartialEq, Eq, Hash, Drop)]
 pub struct OptFrame {
     pub name: Text,
@@ -47,18 +49,23 @@ pub struct Snapshot {
     pub pending: List<Pending>,
 }
 
+/// Which piece of a trace: `Pre` is the first round of a peeled loop, or all of a trace that is not peeled; `Body` is every
+/// later round.
 #[derive(Clone, Copy, Debug, PartialEq, Eq, Hash)]
 pub enum Half {
     Pre,
     Body,
 }
 
+/// A piece by the place of its trace in the set, and its half.
 #[derive(Clone, Copy, Debug, PartialEq, Eq, Hash)]
 pub struct PieceId {
     pub trace: u32,
     pub half: Half,
 }
 
+/// An operation of a piece. `guard` is the place of a guard among those of the recorded trace; `Exit` leaves at that guard
+/// whatever holds.
 #[derive(Debug, PartialEq, Eq, Hash, Drop)]
 pub enum OptOp {
     Plain {
@@ -86,6 +93,7 @@ pub enum OptOp {
     },
 }
 
+/// An optimised straight trace, which begins with the values of its label.
 #[derive(Debug, PartialEq, Eq, Hash, Drop)]
 pub struct Piece {
     pub id: PieceId,
@@ -99,7 +107,8 @@ pub struct OptTrace {
     pub pieces: List<Piece>,
 }
 
-/// What is known of the boxes at an entry.
+/// What is known of the boxes at an entry: a range of words, that a reference is an object or one of a size, what a spot
+/// of a base holds, and what a pure operation gives.
 #[derive(Debug, PartialEq, Eq, Hash, Drop)]
 pub enum Fact {
     Between(BoxId, Word, Word),
@@ -109,7 +118,8 @@ pub enum Fact {
     Same(OpCode, List<Arg>, Arg),
 }
 
-/// What is known where a piece begins: a value for each recorded input, over the boxes of the label.
+/// What is known where a piece begins. The recorded inputs have the `values`, in order, told by boxes of the label, by
+/// constants and by virtual objects; `pending` stores are still to be done.
 #[derive(Debug, PartialEq, Eq, Hash, Drop)]
 pub struct Entry {
     pub label: List<BoxId>,

@@ -3,7 +3,7 @@ ghost use Rattle.std.specs.Prelude.{◌≡◌, IfOk, OnOk, ◌++◌, List};
 ghost use Rattle.std.specs.List.{flat_map};
 ghost use Rattle.trace_ops.specs.Parts.{with_boxes, parts_of, boxes_of_arg, boxes_of_val, boxes_of_frame, boxes_of_shape, boxes_of_pending};
 
-use crate::{Arg, BoxId, List, OptFrame, Pending, Shape, Snapshot, Val};
+use crate::{Arg, BoxId, OptFrame, Pending, Shape, Snapshot, Val};
 use indexmap::IndexSet;
 use std::alloc::{AllocError, Global};
 
@@ -82,14 +82,15 @@ fn note_stores(seen: &mut IndexSet<BoxId>, stores: &[Pending]) -> Result<(), All
     Ok(())
 }
 
-/// The distinct boxes of a snapshot by first occurrence in its frames, then its shapes, then its pending stores.
+/// Each box that a snapshot needs, once, where it is met first: frames are gone through before shapes, and shapes before
+/// pending stores.
 #[tactic(auto, using(crate::proofs::WithBoxes::append))]
-pub fn parts(alloc: Global, snap: &Snapshot) -> Result<List<BoxId>, AllocError>
-    ensures { IfOk result (λ boxes. boxes ≡ parts_of snap.now) }
+pub fn parts(alloc: Global, snap: &Snapshot) -> Result<Vec<BoxId>, AllocError>
+    ensures { IfOk result (λ boxes. boxes.items ≡ parts_of snap.now) }
 {
     let mut seen = IndexSet::new(alloc);
     note_frames(&mut seen, snap.frames.items())?;
     note_shapes(&mut seen, snap.shapes.items())?;
     note_stores(&mut seen, snap.pending.items())?;
-    Ok(List::of(seen.iter().copied().collect(alloc)?))
+    seen.iter().copied().collect(alloc)
 }

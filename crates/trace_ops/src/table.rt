@@ -1,3 +1,4 @@
+//! The data of the descriptions that traces cite.
 ghost use Rattle.std.specs.Prelude.{◌≡◌, IfOk};
 
 use crate::{CopyIn, Kind, List, Text, Word};
@@ -10,6 +11,7 @@ pub enum ShapeOf {
     Array(u32),
 }
 
+/// A structure: its vtable, if it has one, and its fields by their rows.
 #[derive(Debug, PartialEq, Eq, Hash, Drop)]
 pub struct SizeRow {
     pub name: Text,
@@ -17,6 +19,7 @@ pub struct SizeRow {
     pub fields: List<u32>,
 }
 
+/// A field of the size of that row.
 #[derive(Clone, Copy, Debug, PartialEq, Eq, Hash)]
 pub struct FieldRow {
     pub name: Text,
@@ -25,12 +28,14 @@ pub struct FieldRow {
     pub immutable: bool,
 }
 
+/// Arrays of items of one kind.
 #[derive(Clone, Copy, Debug, PartialEq, Eq, Hash)]
 pub struct ArrayRow {
     pub name: Text,
     pub kind: Kind,
 }
 
+/// A kind of call: what is passed behind the function, what comes back, and the fields that the callee may read and write.
 #[derive(Debug, PartialEq, Eq, Hash, Drop)]
 pub struct CallRow {
     pub name: Text,
@@ -40,6 +45,7 @@ pub struct CallRow {
     pub writes: List<u32>,
 }
 
+/// What a part of a prebuilt object holds at first.
 #[derive(Clone, Copy, Debug, PartialEq, Eq, Hash)]
 pub enum Initial {
     Int(Word),
@@ -47,6 +53,7 @@ pub enum Initial {
     Ptr(u32),
 }
 
+/// An object that is there before any trace runs.
 #[derive(Debug, PartialEq, Eq, Hash, Drop)]
 pub struct PrebuiltRow {
     pub name: Text,
@@ -54,7 +61,7 @@ pub struct PrebuiltRow {
     pub parts: List<Initial>,
 }
 
-/// The descriptions that a set of traces cites.
+/// The descriptions that a set of traces cites. `shapes` has each size and each array, in the order of their lines.
 #[derive(Debug, PartialEq, Eq, Hash, Drop)]
 pub struct Table {
     pub shapes: List<ShapeOf>,

@@ -1,3 +1,4 @@
+//! Short texts that are copied like numbers.
 ghost use Rattle.std.specs.Prelude.{◌≡◌, ◌≤◌, length, ◌==◌};
 ghost use Rattle.std.specs.Str.{bytes_eq};
 ghost use Rattle.std.specs.Prelude.{ℕ, nat_eq};
@@ -46,6 +47,7 @@ impl Text {
         }
     }
 
+    /// Its bytes, of which there are at most 64.
     pub fn bytes(&self) -> &[u8]
         ensures value { result.now ≡ self.now }
         ensures len { length self.now ≤ 64 }

@@ -183,8 +183,8 @@ fn along(own: &[u64], parents: &[Option<usize>], left: usize, at: Option<usize>)
     }
 }
 
-/// The weight of a set: the sum over its traces of their own weights and those on their parent paths, or 2^64 - 1
-/// where that is less.
+/// The weight of a set: each of its traces counts its own weight and those of its parents. A sum that no `u64` holds is
+/// told as the greatest one.
 pub fn weight(set: &TraceSet) -> u64
     requires { length set.now.traces ≤ 256 }
     ensures { result ≡ capped (weight_of set.now) }

@@ -1,0 +1,14 @@
+pub mod Bools
+pub mod Numbers
+pub mod Options
+pub mod Results
+pub mod Tests
+pub mod FirstBad
+pub mod Places
+pub mod Appends
+pub mod Alls
+pub mod Eaches
+pub mod Zips
+pub mod Membership
+pub mod Onces
+pub mod Reaching

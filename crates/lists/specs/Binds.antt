@@ -1,0 +1,8 @@
+-- One answer after another, where there is one.
+use Rattle.std.specs.Prelude.{Option, Some, None}
+
+infixl 10 ◌>>=◌
+-- what f makes of the value, if there is one
+abbrev pub ◌>>=◌ : {A B : Type 0} → Option A → (A → Option B) → Option B
+None >>= f = None
+(Some x) >>= f = f x

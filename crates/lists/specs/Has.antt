@@ -1,0 +1,12 @@
+-- What stands in a list.
+use Rattle.std.specs.Prelude.{◌≡◌, ◌⊎◌, List, [], ◌∷◌}
+
+-- x is in the list
+abbrev pub Has : {X : Type 0} → List X → X → Type 0
+Has [] x = ⊥
+Has (y ∷ ys) x = (y ≡ x) ⊎ Has ys x
+
+-- nothing stands twice
+abbrev pub IsOnce : {X : Type 0} → List X → Type 0
+IsOnce [] = Unit {0}
+IsOnce (x ∷ xs) = (Has xs x → ⊥) × IsOnce xs

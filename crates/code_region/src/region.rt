@@ -5,7 +5,7 @@ ghost use Rattle.std.specs.Int.{to_le_bytes, cast_unsigned, w32};
 use crate::chunk::{CHUNK, Chunk};
 use std::alloc::{AllocError, Global};
 use std::marker::Model;
-use x64_encode::Fetch;
+use target_base::Fetch;
 
 /// How many chunks the index has room for at first.
 const FIRST_CHUNKS: usize = 16;

@@ -1,6 +1,6 @@
 use crate::Region;
 use std::test::Fail;
-use x64_encode::Fetch;
+use target_base::Fetch;
 
 #[test]
 fn a_patch_crosses_two_chunks(rt: HostRuntime) -> Result<(), Fail> {

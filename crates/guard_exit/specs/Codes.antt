@@ -1,6 +1,6 @@
 -- How a run leaves the code: a stub for each exit, and one common exit.
 use Rattle.std.specs.Prelude.{ℕ, ◌*◌, ℤ, pos, List, [], ◌∷◌}
-use Rattle.x64_encode.specs.declared.instr.Reg.{Reg}
+use Rattle.target_base.specs.declared.reg.Reg.{Reg}
 use Rattle.x64_encode.specs.declared.instr.Mem.{Mem}
 use Rattle.x64_encode.specs.declared.instr.Mem.TheVariants.{At}
 use Rattle.x64_encode.specs.declared.instr.Instr.{Instr}

@@ -2,8 +2,8 @@
 use Rattle.std.specs.Prelude.{◌≡◌, ◌≢◌, ℕ, ◌+◌, ◌<◌, ◌≤◌, ◌^◌, List, [], ◌∷◌, Some, IsTrue, length, max, slice_get}
 use Rattle.trace_ops.specs.declared.piece.Piece.{Piece}
 use Rattle.trace_ops.specs.Pieces.{defined_by}
-use Rattle.x64_encode.specs.declared.place.Place.{Place}
-use Rattle.x64_encode.specs.declared.place.Place.TheVariants.{In, Word}
+use Rattle.target_base.specs.declared.place.Place.{Place}
+use Rattle.target_base.specs.declared.place.Place.TheVariants.{In, Word}
 use Rattle.linear_scan.specs.declared.places.Places.{Places}
 use Rattle.linear_scan.specs.Registers.{IsValueRegister, is_kept, register}
 use Rattle.linear_scan.specs.Living.{start_of, LivesAt, LivesAcross}

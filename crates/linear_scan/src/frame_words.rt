@@ -6,7 +6,7 @@ use crate::choosing::is_free;
 use std::alloc::{AllocError, Global};
 use std::cmp::Reverse;
 use std::collections::BinaryHeap;
-use x64_encode::Place;
+use target_base::Place;
 
 /// The frame words: those that boxes hold or held, that of the earliest end on top, each with one past that end, and the
 /// first that none held so far, if there is none before it.

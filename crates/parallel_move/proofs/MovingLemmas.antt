@@ -3,8 +3,8 @@ use Rattle.std.proofs.Common.{◌≡◌, ℤ, List, [], ◌∷◌, ◌++◌, Boo
 use mathlib.Core.Path.{fun_ext}
 use Rattle.std.proofs.lemmas.Bool.{or_parts, cases_Bool}
 use Rattle.std.proofs.lemmas.List.{reverse-append}
-use Rattle.x64_encode.specs.declared.place.Place.{Place}
-use Rattle.x64_encode.specs.contracts.place.PlaceEq.TheImpl.Laws as place_laws
+use Rattle.target_base.specs.declared.place.Place.{Place}
+use Rattle.target_base.specs.contracts.place.PlaceEq.TheImpl.Laws as place_laws
 use Rattle.parallel_move.proofs.Same.{place_same}
 use Rattle.parallel_move.specs.declared.moving.Move.{Move}
 use Rattle.parallel_move.specs.declared.moving.Move.TheVariants.{Copy, Swap}

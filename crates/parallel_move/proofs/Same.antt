@@ -1,11 +1,11 @@
 -- Two places that the derived `==` finds equal are equal.
 use Rattle.std.proofs.Common.{◌≡◌, ℕ, true, ap}
 use Rattle.std.proofs.lemmas.Bool.{eqb-true}
-use Rattle.x64_encode.specs.declared.instr.Reg.{Reg}
-use Rattle.x64_encode.specs.declared.place.Place.{Place}
-use Rattle.x64_encode.specs.declared.place.Place.TheVariants.{In, Word}
-use Rattle.x64_encode.specs.contracts.instr.RegPartialEq.TheImpl as reg_eq
-use Rattle.x64_encode.specs.contracts.place.PlacePartialEq.TheImpl as place_eq
+use Rattle.target_base.specs.declared.reg.Reg.{Reg}
+use Rattle.target_base.specs.declared.place.Place.{Place}
+use Rattle.target_base.specs.declared.place.Place.TheVariants.{In, Word}
+use Rattle.target_base.specs.contracts.reg.RegPartialEq.TheImpl as reg_eq
+use Rattle.target_base.specs.contracts.place.PlacePartialEq.TheImpl as place_eq
 
 abbrev reg_of : ℕ → Reg
 reg_of n = record { 0 = n }

@@ -1,8 +1,8 @@
 -- What moves do to a state, which gives each place its word.
 use Rattle.std.specs.Prelude.{◌≡◌, ℤ, List, [], ◌∷◌, Bool, true, false, if◌then◌else◌, reverse}
 use Rattle.std.specs.List.{list_any}
-use Rattle.x64_encode.specs.declared.place.Place.{Place}
-use Rattle.x64_encode.specs.contracts.place.PlacePartialEq.TheImpl as place
+use Rattle.target_base.specs.declared.place.Place.{Place}
+use Rattle.target_base.specs.contracts.place.PlacePartialEq.TheImpl as place
 use Rattle.parallel_move.specs.declared.moving.Move.{Move}
 use Rattle.parallel_move.specs.declared.moving.Move.TheVariants.{Copy, Swap}
 

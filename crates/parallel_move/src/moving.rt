@@ -3,7 +3,7 @@ ghost use Rattle.std.specs.Prelude.{◌≡◌, ℕ, ◌≤◌, ℤ, length, map,
 ghost use Rattle.parallel_move.specs.Moving.{State, at_once, after, is_target, is_source, exchanged, exchanged_pair, HasDistinctTargets, Settles, KeepsPlaces, MovesAmong};
 
 use std::alloc::{AllocError, Global};
-use x64_encode::Place;
+use target_base::Place;
 
 /// A move of words, its target first. A swap exchanges the words of two places.
 #[derive(Clone, Copy, Debug, PartialEq, Eq)]

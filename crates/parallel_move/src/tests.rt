@@ -1,6 +1,6 @@
 use crate::{Move, moves};
 use std::test::Fail;
-use x64_encode::{Place, Reg};
+use target_base::{Place, Reg};
 
 #[test]
 fn two_places_exchange(rt: HostRuntime) -> Result<(), Fail> {

@@ -1,6 +1,6 @@
 use Rattle.std.proofs.Common.{◌<◌, length, slice_set, ap, ◌∙◌, arith}
 use Rattle.std.proofs.lemmas.List.Edits.{map_over_more}
-use Rattle.x64_encode.specs.declared.place.Place.{Place}
+use Rattle.target_base.specs.declared.place.Place.{Place}
 use Rattle.parallel_move.specs.Moving.{exchanged_pair}
 use Rattle.parallel_move.proofs.moving.exchange.Goals as goal
 

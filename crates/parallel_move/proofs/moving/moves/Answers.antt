@@ -3,7 +3,7 @@ use Rattle.std.proofs.lemmas.Bool.{eqb-true}
 use Rattle.std.proofs.lemmas.List.{reverse-append}
 use Rattle.std.proofs.lemmas.Grind.{common_steps}
 use Rattle.std.specs.List.{remove}
-use Rattle.x64_encode.specs.declared.place.Place.{Place}
+use Rattle.target_base.specs.declared.place.Place.{Place}
 use Rattle.parallel_move.specs.declared.moving.Move.{Move}
 use Rattle.parallel_move.specs.Moving.{at_once, after, planned, HasDistinctTargets, HavePlaces, MovePlaces}
 use Rattle.parallel_move.proofs.MovingLemmas.{after-append, move-append_all, move-append_parts}

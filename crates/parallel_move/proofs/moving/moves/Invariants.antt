@@ -1,5 +1,5 @@
 use Rattle.std.proofs.Common.{◌≡◌, ◌+◌, ◌≤◌, ◌++◌, length, reverse, vec_len, Bool}
-use Rattle.x64_encode.specs.declared.place.Place.{Place}
+use Rattle.target_base.specs.declared.place.Place.{Place}
 use Rattle.parallel_move.specs.Moving.{State, at_once, after, planned, HasDistinctTargets, HavePlaces, MovePlaces}
 use Rattle.parallel_move.proofs.moving.moves.Given as goal
 

@@ -1,5 +1,5 @@
 use Rattle.std.proofs.Common.{◌≡◌, true, false, List, [], ◌∷◌, ◌++◌, ap, sym, subst, ◌∙◌}
-use Rattle.x64_encode.specs.declared.place.Place.{Place}
+use Rattle.target_base.specs.declared.place.Place.{Place}
 use Rattle.parallel_move.proofs.Same.{place_same}
 use Rattle.parallel_move.specs.declared.moving.Move.{Move}
 use Rattle.parallel_move.specs.declared.moving.Move.TheVariants.{Copy, Swap}

@@ -6,3 +6,4 @@ pub mod Steps
 pub mod InOrder
 pub mod RootsAlong
 pub mod CellsInOrder
+pub mod RootNumbers

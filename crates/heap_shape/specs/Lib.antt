@@ -3,3 +3,4 @@ pub mod Listing
 pub mod Roots
 pub mod Sameness
 pub mod Order
+pub mod Shown

@@ -1,5 +1,5 @@
 -- When two heaps are the same: an injective map takes the objects that the roots of one reach to those of the other. Objects that no root reaches don't matter.
-use Rattle.std.specs.Prelude.{◌≡◌, ℕ, ◌<◌, List, Option, None, Some, slice_get}
+use Rattle.std.specs.Prelude.{◌≡◌, ℕ, ◌<◌, List, [], Option, None, Some, slice_get}
 use Rattle.std.specs.List.{AllZip}
 use Rattle.trace_meaning.specs.declared.value.Value.{Value}
 use Rattle.trace_meaning.specs.declared.value.Value.TheVariants as v
@@ -43,6 +43,17 @@ pub record SameCall (m : ℕ → Option ℕ) (x y : CallEvent) : Type 0 where
   pub args : AllZip (Maps m) x.args y.args
   pub seen : AllZip (Maps m) x.seen y.seen
   pub gives : MapsIf m x.gives y.gives
+
+-- a list gives each object of one heap its object of the other; no two are one, and each prebuilt object is itself
+pub record IsOneToOne (prebuilts : ℕ) (m : List ℕ) : Type 0 where
+  pub one_to_one : (x y j : ℕ) → slice_get m x ≡ Some j → slice_get m y ≡ Some j → x ≡ y
+  pub prebuilt : (x : ℕ) → x < prebuilts → slice_get m x ≡ Some x
+
+-- calls that agree one by one have the same root numbers, whatever the heaps hold
+abbrev pub SameRootNumbers : Type 0
+SameRootNumbers =
+    (m : List ℕ) (prebuilts : ℕ) (xs ys : List CallEvent) (one other : List Object) → IsOneToOne prebuilts m → AllZip (SameCall (slice_get m)) xs ys
+    → (listing one (roots prebuilts xs [])).1 ≡ (listing other (roots prebuilts ys [])).1
 
 -- the roots of runs whose calls and last values agree, and whose prebuilt objects are the same, agree too
 abbrev pub SameRoots : Type 0

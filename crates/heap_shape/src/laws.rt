@@ -1,7 +1,7 @@
 //! What is promised of listings: laws over the definitions that the contracts cite.
 
 ghost use Rattle.heap_shape.specs.Order.{CellsAreObjects, NumbersArePlaces, RootsAlone, VisitsInOrder};
-ghost use Rattle.heap_shape.specs.Sameness.{SameListing, SameRoots};
+ghost use Rattle.heap_shape.specs.Sameness.{SameListing, SameRoots, SameRootNumbers};
 
 /// Where an injective map takes the objects that the roots of one heap reach to objects of another, with the same shapes and
 /// with parts and roots that agree along the map, the two listings are equal.
@@ -12,6 +12,11 @@ pub fn same_heaps_list_alike()
 /// The roots of two runs agree along a map where the prebuilt objects are the same and the calls and the last values agree.
 pub fn same_calls_have_the_same_roots()
     ensures { SameRoots }
+{}
+
+/// Two lists of calls that agree one by one along a one-to-one map have the same root numbers, whatever the heaps hold.
+pub fn same_calls_have_the_same_numbers()
+    ensures { SameRootNumbers }
 {}
 
 /// Visited is each object that the roots reach and no other, once, in the order in which they first stand in the roots, then

@@ -10,7 +10,8 @@ mod walk;
 pub use cell::{Cell, Ref};
 pub use laws::{
     cells_are_objects, numbers_are_places, roots_are_numbered_alone,
-    same_calls_have_the_same_roots, same_heaps_list_alike, visits_are_in_order,
+    same_calls_have_the_same_numbers, same_calls_have_the_same_roots, same_heaps_list_alike,
+    visits_are_in_order,
 };
 pub use observed::roots;
 pub use walk::listing;

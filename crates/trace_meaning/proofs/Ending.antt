@@ -13,7 +13,7 @@ use Rattle.trace_ops.specs.WellFormed.{IsWellFormed}
 use Rattle.trace_meaning.specs.declared.value.Value.{Value}
 use Rattle.trace_meaning.specs.Cuts.{Cuts}
 use Rattle.trace_meaning.specs.Recorded.{Rec, ops_of, ops_at, recorded, recorded_with, recorded_part, values_of}
-use Rattle.trace_meaning.specs.Laws.{Leaves, EndsByLeaving}
+use Rattle.trace_meaning.specs.RunLaws.{Leaves, EndsByLeaving}
 
 part_leaves : (p : Part) (t : Table) (op : Op) (s : Rec) (vs : List Value) → IsTrue (ends p) → Leaves (recorded_part p t op s vs)
 part_leaves part.Jump t op s vs h = tt

@@ -24,7 +24,8 @@ use Rattle.trace_meaning.specs.Objects.{zeroed}
 use Rattle.trace_meaning.specs.Answers.{same_result, kind_given, is_named, is_new, is_base, is_declared, may_be_stored, store_fits, store_fits_field, fits, value_given, value_stored, or_same, write_given, store_done, stores_done, new_object, with_fresh, answer_done}
 use Rattle.trace_meaning.specs.Performing.{Done, Gave, Bad, Waited, Misfitted, event_of, with_call, answered_if, called_first, call_row, call_function}
 use Rattle.trace_meaning.specs.Kinds.{IsValueOf}
-use Rattle.trace_meaning.proofs.OfKind.{IsValueOf-more, AreOfKinds}
+use Rattle.trace_meaning.specs.Kinds.{AreOfKinds}
+use Rattle.trace_meaning.proofs.OfKind.{IsValueOf-more}
 use Rattle.trace_meaning.proofs.Holding.{Holds, Keeps, KeepsIf, keeps-same, keeps-twice, IsGiven, KeepsIf-write, Keeps-with_new, new_is_there, PartsHold-zeroed}
 
 -- what an operation leaves holds values of their kinds, and what it gives is of the kind that is wanted
@@ -59,7 +60,7 @@ references_held n (Some k ∷ ks) (x ∷ xs) h = first_reference n k x (referenc
 
 -- What is given and stored
 
-same_result_same : (a b : Option Kind) → same_result a b ≡ true → a ≡ b
+pub same_result_same : (a b : Option Kind) → same_result a b ≡ true → a ≡ b
 same_result_same None None h = refl
 same_result_same (Some kind.Int) (Some kind.Int) h = refl
 same_result_same (Some kind.Ref) (Some kind.Ref) h = refl

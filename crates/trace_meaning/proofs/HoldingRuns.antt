@@ -1,11 +1,11 @@
 -- A run keeps values of their kinds.
 use Rattle.std.proofs.Common.{◌≡◌, ℕ, zero, suc, ◌+◌, ◌-◌, Bool, true, false, cond, Option, Some, None, List, [], ◌∷◌, ◌++◌, length, map, slice_get, refl, ap, sym, ◌∙◌, subst, append_assoc, arith}
 use Rattle.std.specs.Prelude.{◌==◌, IsSomeAnd, option_and_then, filter}
-use Rattle.std.specs.List.{All}
-use Rattle.std.specs.Option.{unwrap_or}
+use Rattle.std.specs.List.{All, flat_map}
+use Rattle.std.specs.Option.{unwrap_or, option_to_list}
 use Rattle.std.proofs.lemmas.Bool.{eqb-true, and_parts}
 use Rattle.std.proofs.lemmas.Option.{same_Some}
-use Rattle.std.proofs.lemmas.List.{length-append, length-map}
+use Rattle.std.proofs.lemmas.List.{append-nil, length-append, length-map}
 use Rattle.std.proofs.lemmas.List.Elements.{filter-append}
 use Rattle.trace_ops.specs.declared.facts.Part.{Part}
 use Rattle.trace_ops.specs.declared.facts.Part.TheVariants as part
@@ -35,13 +35,21 @@ use Rattle.trace_meaning.specs.Observed.{guard_in, world_of, world_left}
 use Rattle.trace_meaning.specs.Starting.{Starts, StartsLoop}
 use Rattle.trace_meaning.specs.Kinds.{BoxesHold, ObjectsHold, RunHolds, LeftRightly}
 use Rattle.trace_meaning.proofs.Bridges.{seen-is_bridge}
-use Rattle.trace_meaning.proofs.OfKind.{BoxesHold-bound_to, AreOfKinds, AreOfKinds-there, AreOfKinds-slots}
+use Rattle.trace_meaning.specs.Kinds.{AreOfKinds}
+use Rattle.trace_meaning.proofs.OfKind.{BoxesHold-bound_to, AreOfKinds-there, AreOfKinds-slots}
 use Rattle.trace_meaning.proofs.Holding.{Holds}
 use Rattle.trace_meaning.proofs.HoldingSteps.{IsLawful, one_if, GoesOn, FailsIn, JumpsOut, LeaveHolds, TurnHolds, slots_named, TurnHolds-recorded_step}
-use Rattle.trace_meaning.proofs.HoldingStarts.{All-slice_get, AreOfKinds-inputs, Holds-first_world}
+use Rattle.lists.proofs.Alls.{all_at}
+use Rattle.trace_meaning.specs.Boxes.{BoxesDecide, HasValue, bound_to}
+use Rattle.trace_meaning.proofs.Valued.{inputs-valued}
+use Rattle.trace_meaning.proofs.HoldingStarts.{AreOfKinds-inputs, Holds-first_world}
 
-abbrev guards_in : List Op → List Op
+abbrev pub guards_in : List Op → List Op
 guards_in ops = filter (λ (op : Op). is_guard op.code) ops
+
+-- the boxes that are known behind these operations
+abbrev pub known_behind : TraceSet → ℕ → List Op → List BoxId
+known_behind set p before = inputs_of (slice_get set.traces p) ++ flat_map (λ (op : Op). option_to_list op.result) before
 
 -- a run inside a trace: behind these operations, among them as many guards as were counted, with boxes and objects that
 -- hold values of their kinds
@@ -51,17 +59,21 @@ pub record IsInside (set : TraceSet) (p : ℕ) (rest : List Op) (s : Rec) : Type
   pub guards : s.guards ≡ length (guards_in before)
   pub boxes : BoxesHold (length s.world.objects) s.boxes
   pub world : Holds set.table s.world
+  -- the inputs and the results of these operations have values
+  pub known : All (HasValue s.boxes) (known_behind set p before)
+  -- there are more to come, where there were any
+  pub more : length rest ≡ 0 → length before ≡ 0
 
 -- wherever it stands
 abbrev pub NowHolds : TraceSet → RecordedNow → Type 0
 NowHolds set (In p rest s) = IsInside set p rest s
 NowHolds set (Over p l) = Holds set.table (world_left l) × LeftRightly set (Over p l)
 
-seam : {X : Type 0} (xs ys : List X) (y : X) → slice_get (xs ++ y ∷ ys) (length xs) ≡ Some y
+pub seam : {X : Type 0} (xs ys : List X) (y : X) → slice_get (xs ++ y ∷ ys) (length xs) ≡ Some y
 seam [] ys y = refl
 seam (x ∷ xs) ys y = seam xs ys y
 
-not_empty : {X : Type 0} (xs ys : List X) (y : X) → [] ≡ xs ++ y ∷ ys → ⊥
+pub not_empty : {X : Type 0} (xs ys : List X) (y : X) → [] ≡ xs ++ y ∷ ys → ⊥
 not_empty [] ys y h = cc
 not_empty (x ∷ xs) ys y h = cc
 
@@ -81,21 +93,38 @@ first_guard true op rest h = refl
 first_guard false op rest h = absurd (cc)
 
 -- the guard behind these operations
-guard_there : (before rest : List Op) (op : Op) → is_guard op.code ≡ true → slice_get (guards_in (before ++ op ∷ rest)) (length (guards_in before)) ≡ Some op
+pub guard_there : (before rest : List Op) (op : Op) → is_guard op.code ≡ true → slice_get (guards_in (before ++ op ∷ rest)) (length (guards_in before)) ≡ Some op
 guard_there before rest op one =
     let test : Op → Bool = λ o. is_guard o.code in
     ap (λ (l : List Op). slice_get l (length (guards_in before))) (filter-append test before (op ∷ rest) ∙ ap (λ (l : List Op). guards_in before ++ l) (first_guard (is_guard op.code) op (guards_in rest) one))
     ∙ seam (guards_in before) (guards_in rest) op
 
-module _ (set : TraceSet) (cuts : Cuts) (range : IsInRange set) (well : IsWellFormed set) where
+pub known_more : (set : TraceSet) (p : ℕ) (before : List Op) (op : Op) → known_behind set p (before ++ op ∷ []) ≡ known_behind set p before ++ option_to_list op.result
+known_more set p before op =
+    let res : Op → List BoxId = λ o. option_to_list o.result in
+    ap (λ l. inputs_of (slice_get set.traces p) ++ l) (results before ∙ ap (λ l. flat_map res before ++ l) (append-nil (option_to_list op.result)))
+    ∙ sym (append_assoc (inputs_of (slice_get set.traces p)) (flat_map res before) (option_to_list op.result))
+  where
+    results : (xs : List Op) → flat_map (λ (o : Op). option_to_list o.result) (xs ++ op ∷ []) ≡ flat_map (λ (o : Op). option_to_list o.result) xs ++ flat_map (λ (o : Op). option_to_list o.result) (op ∷ [])
+    results [] = refl
+    results (x ∷ xs) = ap (λ l. option_to_list x.result ++ l) (results xs) ∙ sym (append_assoc (option_to_list x.result) (flat_map (λ (o : Op). option_to_list o.result) xs) (flat_map (λ (o : Op). option_to_list o.result) (op ∷ [])))
+
+pub begins_known : (decides : BoxesDecide) (set : TraceSet) (q : ℕ) (vs : List Value) (n : ℕ) → AreOfKinds n (map (λ (b : BoxId). Some b.kind) (inputs_of (slice_get set.traces q))) vs → All (HasValue (bound_to (inputs_of (slice_get set.traces q)) vs)) (known_behind set q [])
+begins_known decides set q vs n hv =
+    let bs = inputs_of (slice_get set.traces q) in
+    subst (λ l. All (HasValue (bound_to bs vs)) l) (sym (append-nil bs)) (inputs-valued decides n bs vs hv)
+
+module _ (decides : BoxesDecide) (set : TraceSet) (cuts : Cuts) (range : IsInRange set) (well : IsWellFormed set) where
   -- a run at the head of a trace
-  begins_inside : (q : ℕ) (vs : List Value) (w : World) → Holds set.table w → AreOfKinds (length w.objects) (map (λ (b : BoxId). Some b.kind) (inputs_of (slice_get set.traces q))) vs → IsInside set q (ops_at set q) (begin_at set q vs w)
+  pub begins_inside : (q : ℕ) (vs : List Value) (w : World) → Holds set.table w → AreOfKinds (length w.objects) (map (λ (b : BoxId). Some b.kind) (inputs_of (slice_get set.traces q))) vs → IsInside set q (ops_at set q) (begin_at set q vs w)
   begins_inside q vs w h hv = record {
     before = [];
     place = refl;
     guards = refl;
-    boxes = BoxesHold-bound_to (length w.objects) (inputs_of (slice_get set.traces q)) vs hv;
+    boxes = BoxesHold-bound_to decides (length w.objects) (inputs_of (slice_get set.traces q)) vs hv;
     world = h;
+    known = begins_known decides set q vs (length w.objects) hv;
+    more = λ e. refl;
   }
 
   -- Bridges
@@ -119,7 +148,7 @@ module _ (set : TraceSet) (cuts : Cuts) (range : IsInRange set) (well : IsWellFo
       ∙ eg in
       received b.inputs op (guard_named set (Bridge parent guard)) named r
 
-  bridge_receives : (p n : ℕ) (tr : Trace) (op : Op) (q : ℕ) (b : Option Trace) → slice_get set.traces p ≡ Some tr → guard_op tr n ≡ Some op → slice_get set.traces q ≡ b → trace_leaves_from set.traces p n b ≡ true → map kind_of_arg (slots_of_guard op) ≡ map (λ (i : BoxId). Some i.kind) (inputs_of b)
+  pub bridge_receives : (p n : ℕ) (tr : Trace) (op : Op) (q : ℕ) (b : Option Trace) → slice_get set.traces p ≡ Some tr → guard_op tr n ≡ Some op → slice_get set.traces q ≡ b → trace_leaves_from set.traces p n b ≡ true → map kind_of_arg (slots_of_guard op) ≡ map (λ (i : BoxId). Some i.kind) (inputs_of b)
   bridge_receives p n tr op q None et eg eb h = absurd (cc)
   bridge_receives p n tr op q (Some b) et eg eb h = origin_receives p n tr op q b b.origin et eg refl h (well.inputs_fit q b eb).0
 
@@ -144,7 +173,7 @@ module _ (set : TraceSet) (cuts : Cuts) (range : IsInRange set) (well : IsWellFo
   target_fits kinds p None h = absurd h
   target_fits kinds p (Some q) h = loop_fits (slice_get set.traces q) kinds h
 
-  jump_fits : (p : ℕ) (op : Op) → last_of (ops_at set p) ≡ Some op → JumpsRightly part.Jump set p op → map kind_of_arg op.args ≡ map (λ (b : BoxId). Some b.kind) (inputs_of (slice_get set.traces (jump_target set p)))
+  pub jump_fits : (p : ℕ) (op : Op) → last_of (ops_at set p) ≡ Some op → JumpsRightly part.Jump set p op → map kind_of_arg op.args ≡ map (λ (b : BoxId). Some b.kind) (inputs_of (slice_get set.traces (jump_target set p)))
   jump_fits p op el h =
       target_fits (map kind_of_arg op.args) p (target_of set p op.descr) h
       ∙ ap (λ (x : Option Op). map (λ (b : BoxId). Some b.kind) (inputs_of (slice_get set.traces (unwrap_or (option_and_then (λ (o : Op). target_of set p o.descr) x) p)))) (sym el)
@@ -152,33 +181,45 @@ module _ (set : TraceSet) (cuts : Cuts) (range : IsInRange set) (well : IsWellFo
   -- One operation
 
   module _ (p : ℕ) (before rest : List Op) (op : Op) (tr : Trace) (et : slice_get set.traces p ≡ Some tr) (place : tr.ops ≡ before ++ op ∷ rest) where
-    there : slice_get tr.ops (length before) ≡ Some op
+    pub there : slice_get tr.ops (length before) ≡ Some op
     there = ap (λ (l : List Op). slice_get l (length before)) place ∙ seam before rest op
 
-    lawful : IsLawful set.table op
+    pub lawful : IsLawful set.table op
     lawful = record {
-      names = All-slice_get (NamesOperation set.table) tr.ops (length before) op (All-slice_get (λ (t : Trace). All (NamesOperation set.table) t.ops) set.traces p tr range.operations_name_rows et) there;
+      names = all_at (NamesOperation set.table) tr.ops (length before) op (all_at (λ (t : Trace). All (NamesOperation set.table) t.ops) set.traces p tr range.operations_name_rows et) there;
       takes = well.arguments_fit p tr et (length before) op there;
       gives = well.results_fit p tr et (length before) op there;
       cites = well.descrs_fit p tr et (length before) op there;
     }
 
-    slots : All IsSlot (slots_of_guard op)
-    slots = slots_named IsSlot op.snapshot (All-slice_get (λ (o : Op). All (λ (f : Frame). All IsSlot f.slots) o.snapshot) tr.ops (length before) op (All-slice_get (λ (t : Trace). All (λ (o : Op). All (λ (f : Frame). All IsSlot f.slots) o.snapshot) t.ops) set.traces p tr range.slots_hold_values et) there)
+    pub slots : All IsSlot (slots_of_guard op)
+    slots = slots_named IsSlot op.snapshot (all_at (λ (o : Op). All (λ (f : Frame). All IsSlot f.slots) o.snapshot) tr.ops (length before) op (all_at (λ (t : Trace). All (λ (o : Op). All (λ (f : Frame). All IsSlot f.slots) o.snapshot) t.ops) set.traces p tr range.slots_hold_values et) there)
 
-    is_last : part_of op.code ≡ part.Jump → last_of (ops_at set p) ≡ Some op
+    pub is_last : part_of op.code ≡ part.Jump → last_of (ops_at set p) ≡ Some op
     is_last e =
         let end : length before + 1 ≡ length tr.ops = (well.ends_at_end p tr et (length before) op there).0 (ap ends e) in
         let at : length tr.ops - 1 ≡ length before = omega arith in
         ap (λ (x : Option Trace). last_of (ops_of x)) et ∙ ap (slice_get tr.ops) at ∙ there
 
-    goes_on : (s u : Rec) → s.guards ≡ length (guards_in before) → GoesOn set.table op s u → IsInside set p rest u
-    goes_on s u count h = record {
+    -- an operation that is no end isn't the last
+    ended : (rest : List Op) → length rest ≡ 0 → ends (part_of op.code) ≡ false → tr.ops ≡ before ++ op ∷ rest → ⊥
+    ended [] none no_end place =
+        let long : length tr.ops ≡ length (before ++ op ∷ []) = ap length place in
+        let two : length (before ++ op ∷ []) ≡ length before + 1 = length-append before (op ∷ []) in
+        let last : length before + 1 ≡ length tr.ops = omega arith in
+        let is : ends (part_of op.code) ≡ true = (well.ends_at_end p tr et (length before) op there).1 last in
+        let wrong : false ≡ true = sym no_end ∙ is in cc
+    ended (x ∷ xs) none no_end place = absurd (omega arith)
+
+    pub goes_on : (s u : Rec) → s.guards ≡ length (guards_in before) → All (HasValue s.boxes) (known_behind set p before) → GoesOn set.table op s u → IsInside set p rest u
+    goes_on s u count known h = record {
       before = before ++ op ∷ [];
       place = ap (λ (x : Option Trace). ops_of x) et ∙ place ∙ sym (append_assoc before (op ∷ []) rest);
       guards = h.guards ∙ ap (λ m. m + one_if (is_guard op.code)) count ∙ sym (guards_more before op);
       boxes = h.boxes;
       world = h.world;
+      known = subst (λ l. All (HasValue u.boxes) l) (sym (known_more set p before op)) (h.known (known_behind set p before) known);
+      more = λ e. absurd (ended rest e h.no_end place);
     }
 
     fails : (s : Rec) (n : ℕ) (vs : List Value) (w : World) → s.guards ≡ length (guards_in before) → FailsIn set.table op s n vs w → NowHolds set (enter (recorded set cuts) p (Fails n vs w))
@@ -200,17 +241,17 @@ module _ (set : TraceSet) (cuts : Cuts) (range : IsInRange set) (well : IsWellFo
     leaves s (Misfits w) count h = (h, tt)
     leaves s (Wrong w) count h = (h, tt)
 
-    settles : (s : Rec) (turn : Turn Rec) → s.guards ≡ length (guards_in before) → TurnHolds set.table op s turn → NowHolds set (settle (recorded set cuts) p rest turn)
-    settles s (On u) count h = goes_on s u count h
-    settles s (Off l) count h = leaves s l count h
+    settles : (s : Rec) (turn : Turn Rec) → s.guards ≡ length (guards_in before) → All (HasValue s.boxes) (known_behind set p before) → TurnHolds set.table op s turn → NowHolds set (settle (recorded set cuts) p rest turn)
+    settles s (On u) count known h = goes_on s u count known h
+    settles s (Off l) count known h = leaves s l count h
 
   op_next : (p : ℕ) (op : Op) (rest : List Op) (s : Rec) (x : Option Trace) → slice_get set.traces p ≡ x → IsInside set p (op ∷ rest) s → NowHolds set (settle (recorded set cuts) p rest (recorded_step set.table op s))
   op_next p op rest s None et h = absurd (not_empty h.before rest op (sym (ap (λ (x : Option Trace). ops_of x) et) ∙ h.place))
   op_next p op rest s (Some tr) et h =
       let place : tr.ops ≡ h.before ++ op ∷ rest = sym (ap (λ (x : Option Trace). ops_of x) et) ∙ h.place in
-      settles p h.before rest op tr et place s (recorded_step set.table op s) h.guards (TurnHolds-recorded_step set.table op s (lawful p h.before rest op tr et place) h.world h.boxes)
+      settles p h.before rest op tr et place s (recorded_step set.table op s) h.guards h.known (TurnHolds-recorded_step decides set.table op s (lawful p h.before rest op tr et place) h.world h.boxes)
 
-  next_holds : (x : RecordedNow) → NowHolds set x → NowHolds set (next (recorded set cuts) x)
+  pub next_holds : (x : RecordedNow) → NowHolds set x → NowHolds set (next (recorded set cuts) x)
   next_holds (In p [] s) h = (h.world, tt)
   next_holds (In p (op ∷ rest) s) h = op_next p op rest s (slice_get set.traces p) refl h
   next_holds (Over p l) h = h

@@ -3,9 +3,10 @@ use Rattle.std.proofs.Common.{◌≡◌, ℕ, ◌<◌, Option, Some, None, List,
 use Rattle.std.specs.Prelude.{IsSomeAnd, option_and_then}
 use Rattle.std.specs.List.{All}
 use Rattle.std.specs.Option.{option_map}
-use Rattle.std.proofs.lemmas.Option.{same_Some, slice_get-map, slice_get_within, get_or_from_slice_get}
+use Rattle.std.proofs.lemmas.Option.{same_Some, slice_get-map}
 use Rattle.std.proofs.lemmas.List.{length-map}
 use Rattle.std.proofs.lemmas.List.Elements.{All-head, All-tail}
+use Rattle.lists.proofs.Alls.{all_at}
 use Rattle.trace_ops.specs.declared.trace.Kind.{Kind}
 use Rattle.trace_ops.specs.declared.trace.Kind.TheVariants as kind
 use Rattle.trace_ops.specs.declared.trace.BoxId.{BoxId}
@@ -28,12 +29,8 @@ use Rattle.trace_meaning.specs.Objects.{listed}
 use Rattle.trace_meaning.specs.Recorded.{initial_value, prebuilt_object, first_world}
 use Rattle.trace_meaning.specs.Starting.{IsPrebuiltOrNone}
 use Rattle.trace_meaning.specs.Kinds.{IsValueOf, kind_of_part, PartsHold}
-use Rattle.trace_meaning.proofs.OfKind.{AreOfKinds}
+use Rattle.trace_meaning.specs.Kinds.{AreOfKinds}
 use Rattle.trace_meaning.proofs.Holding.{Holds}
-
--- what holds of each holds at a place
-pub All-slice_get : {X : Type 0} (P : X → Type 0) (xs : List X) (k : ℕ) (x : X) → All P xs → slice_get xs k ≡ Some x → P x
-All-slice_get P xs k x h e = subst P (get_or_from_slice_get xs k x x e) (h k x (slice_get_within xs k x e))
 
 -- Inputs
 
@@ -75,7 +72,7 @@ module _ (t : Table) (n : ℕ) (count : n ≡ length t.prebuilts) where
 
   array_initial : (parts : List Initial) (i : ℕ) (p : Initial) (k : Kind) (row : Option ArrayRow) → slice_get parts i ≡ Some p → IsSomeAnd row (λ (r : ArrayRow). All (λ l. l ≡ Some r.kind) (map kind_of_initial parts)) → option_map (λ (r : ArrayRow). r.kind) row ≡ Some k → kind_of_initial p ≡ Some k
   array_initial parts i p k None ep h is = absurd h
-  array_initial parts i p k (Some row) ep h is = All-slice_get (λ l. l ≡ Some row.kind) (map kind_of_initial parts) i (kind_of_initial p) h (slice_get-map kind_of_initial parts i ∙ ap (option_map kind_of_initial) ep) ∙ is
+  array_initial parts i p k (Some row) ep h is = all_at (λ l. l ≡ Some row.kind) (map kind_of_initial parts) i (kind_of_initial p) h (slice_get-map kind_of_initial parts i ∙ ap (option_map kind_of_initial) ep) ∙ is
 
   part_initial : (of : ShapeOf) (parts : List Initial) (i : ℕ) (p : Initial) (k : Kind) → slice_get parts i ≡ Some p → HasParts t of (map kind_of_initial parts) → kind_of_part t of i ≡ Some k → kind_of_initial p ≡ Some k
   part_initial (shape.Size s) parts i p k ep h is = size_initial parts i p k (slice_get t.sizes s) ep h is
@@ -83,7 +80,7 @@ module _ (t : Table) (n : ℕ) (count : n ≡ length t.prebuilts) where
 
   placed_initial : (row : PrebuiltRow) (i : ℕ) (k : Kind) (x : Value) (p : Option Initial) → IsPrebuilt t row → kind_of_part t row.of i ≡ Some k → slice_get row.parts i ≡ p → option_map initial_value p ≡ Some x → IsValueOf n k x
   placed_initial row i k x None h ek ep ex = absurd (cc)
-  placed_initial row i k x (Some p) h ek ep ex = subst (λ z. IsValueOf n k z) (same_Some (initial_value p) x ex) (initial_held p k (All-slice_get (NamesInitial t) row.parts i p h.1 ep) (part_initial row.of row.parts i p k ep h.0 ek))
+  placed_initial row i k x (Some p) h ek ep ex = subst (λ z. IsValueOf n k z) (same_Some (initial_value p) x ex) (initial_held p k (all_at (NamesInitial t) row.parts i p h.1 ep) (part_initial row.of row.parts i p k ep h.0 ek))
 
   PartsHold-prebuilt_object : (row : PrebuiltRow) → IsPrebuilt t row → PartsHold t n (prebuilt_object row)
   PartsHold-prebuilt_object row h = λ i k x ek ex. placed_initial row i k x (slice_get row.parts i) h ek refl (sym (slice_get-map initial_value row.parts i) ∙ ex)
@@ -92,7 +89,7 @@ module _ (t : Table) (n : ℕ) (count : n ≡ length t.prebuilts) where
   row_held o None m h er eo = absurd (cc)
   row_held o (Some row) m h er eo =
       let P : Object → Type 0 = λ q. PartsHold t n q in
-      subst P (same_Some (prebuilt_object row) o eo) (PartsHold-prebuilt_object row (All-slice_get (IsPrebuilt t) t.prebuilts m row h er))
+      subst P (same_Some (prebuilt_object row) o eo) (PartsHold-prebuilt_object row (all_at (IsPrebuilt t) t.prebuilts m row h er))
 
 pub Holds-first_world : (t : Table) (answers : List Answer) → IsTableInRange t → Holds t (first_world t answers)
 Holds-first_world t answers h =

@@ -3,7 +3,7 @@ use Rattle.std.proofs.Common.{◌≡◌, ℕ, zero, suc, ◌+◌, ◌<◌, ◌�
 use Rattle.trace_meaning.specs.declared.value.Value.{Value}
 use Rattle.trace_meaning.specs.World.{World}
 use Rattle.trace_meaning.specs.Legs.{Leave, Fails, Jumps, Finishes, Waits, Misfits, Wrong, Turn, On, Off, go_on, drive, Program, In, run, settle, into, into_leg, enter, land, at_leg}
-use Rattle.trace_meaning.specs.Laws.{IsInside, Leaves, EndsByLeaving, MakesLeg}
+use Rattle.trace_meaning.specs.RunLaws.{IsInside, Leaves, EndsByLeaving, MakesLeg}
 
 module _ {P O S : Type 0} (a : Program P O S) (p : P) where
   into_landed : (n : ℕ) (vs : List Value) (w : World) (q : Option P) → into a p n vs w q ≡ at_leg a (into_leg p n vs w q)

@@ -11,12 +11,11 @@ use Rattle.trace_ops.specs.declared.trace.Arg.TheVariants as arg
 use Rattle.trace_ops.specs.declared.table.Table.{Table}
 use Rattle.trace_ops.specs.Kinds.{kind_of_arg, NamesArg}
 use Rattle.trace_ops.specs.InRange.{IsSlot}
-use Rattle.trace_ops.proofs.Same.{box_decides}
 use Rattle.trace_meaning.specs.declared.value.Value.{Value}
 use Rattle.trace_meaning.specs.declared.value.Value.TheVariants as v
 use Rattle.trace_meaning.specs.Values.{kind_of_value}
-use Rattle.trace_meaning.specs.Boxes.{Boxes, same_box, value_in, bind, bind_all, bound_to, arg_value, with_first, all_values}
-use Rattle.trace_meaning.specs.Kinds.{IsValueOf, BoxesHold, IsThere}
+use Rattle.trace_meaning.specs.Boxes.{Boxes, BoxesDecide, same_box, value_in, bind, bind_all, bound_to, arg_value, with_first, all_values}
+use Rattle.trace_meaning.specs.Kinds.{IsValueOf, BoxesHold, IsThere, AreOfKinds}
 
 -- the same where there are more objects
 pub IsValueOf-more : (m n : ℕ) (k : Kind) (x : Value) → m ≤ n → IsValueOf m k x → IsValueOf n k x
@@ -32,9 +31,9 @@ BoxesHold-more m n boxes le h = λ b x e. IsValueOf-more m n b.kind x le (h b x 
 
 -- Boxes
 
-module _ (b c : BoxId) (x y : Value) where
+module _ (decides : BoxesDecide) (b c : BoxId) (x y : Value) where
   replaced : (es : Boxes) (k : BoxId) (z : Value) (t : Bool) → same_box c k ≡ t → same_box b k ≡ true → cond t (Some x) (value_in es c) ≡ Some y → ((c ≡ b) × (y ≡ x)) ⊎ (cond t (Some z) (value_in es c) ≡ Some y)
-  replaced es k z true same own h = inl ((box_decides c k).0 same ∙ sym ((box_decides b k).0 own), sym (same_Some x y h))
+  replaced es k z true same own h = inl ((decides c k).0 same ∙ sym ((decides b k).0 own), sym (same_Some x y h))
   replaced es k z false same own h = inr h
 
   passed : (es : Boxes) (z : Value) (t : Bool) → (value_in (bind b x es) c ≡ Some y → ((c ≡ b) × (y ≡ x)) ⊎ (value_in es c ≡ Some y)) → cond t (Some z) (value_in (bind b x es) c) ≡ Some y → ((c ≡ b) × (y ≡ x)) ⊎ (cond t (Some z) (value_in es c) ≡ Some y)
@@ -43,34 +42,27 @@ module _ (b c : BoxId) (x y : Value) where
 
   -- what a box holds when one has got a value
   bound_cases : (es : Boxes) → value_in (bind b x es) c ≡ Some y → ((c ≡ b) × (y ≡ x)) ⊎ (value_in es c ≡ Some y)
-  bound_cases [] h = let found = cond_some (same_box c b) x y h in inl ((box_decides c b).0 found.0, sym found.1)
+  bound_cases [] h = let found = cond_some (same_box c b) x y h in inl ((decides c b).0 found.0, sym found.1)
   bound_cases (e ∷ es) h = elim (same_box b e.0) as (λ t. same_box b e.0 ≡ t → value_in (cond t ((e.0, x) ∷ es) (e ∷ bind b x es)) c ≡ Some y → ((c ≡ b) × (y ≡ x)) ⊎ (value_in (e ∷ es) c ≡ Some y)) [
     | true ↦ λ own g. replaced es e.0 e.1 (same_box c e.0) refl own g
     | false ↦ λ own g. passed es e.1 (same_box c e.0) (bound_cases es) g
   ] refl h
 
-pub BoxesHold-bind : (n : ℕ) (b : BoxId) (x : Value) (boxes : Boxes) → IsValueOf n b.kind x → BoxesHold n boxes → BoxesHold n (bind b x boxes)
-BoxesHold-bind n b x boxes one h = λ c y e. elim (bound_cases b c x y boxes e) [
+pub BoxesHold-bind : (decides : BoxesDecide) (n : ℕ) (b : BoxId) (x : Value) (boxes : Boxes) → IsValueOf n b.kind x → BoxesHold n boxes → BoxesHold n (bind b x boxes)
+BoxesHold-bind decides n b x boxes one h = λ c y e. elim (bound_cases decides b c x y boxes e) [
   | inl same ↦ subst (λ z. IsValueOf n c.kind z) (sym same.1) (subst (λ (d : BoxId). IsValueOf n d.kind x) (sym same.0) one)
   | inr there ↦ h c y there
 ]
 
 -- Values, of the kinds that are there one after another
 
-abbrev pub AreOfKinds : ℕ → List (Option Kind) → List Value → Type 0
-AreOfKinds n [] [] = Unit {0}
-AreOfKinds n [] (x ∷ xs) = ⊥
-AreOfKinds n (None ∷ ks) xs = AreOfKinds n ks xs
-AreOfKinds n (Some k ∷ ks) [] = ⊥
-AreOfKinds n (Some k ∷ ks) (x ∷ xs) = IsValueOf n k x × AreOfKinds n ks xs
+bound_held : (decides : BoxesDecide) (n : ℕ) (bs : List BoxId) (xs : List Value) (boxes : Boxes) → BoxesHold n boxes → AreOfKinds n (map (λ (b : BoxId). Some b.kind) bs) xs → BoxesHold n (bind_all boxes bs xs)
+bound_held decides n [] xs boxes held h = held
+bound_held decides n (b ∷ bs) [] boxes held h = absurd h
+bound_held decides n (b ∷ bs) (x ∷ xs) boxes held h = bound_held decides n bs xs (bind b x boxes) (BoxesHold-bind decides n b x boxes h.0 held) h.1
 
-bound_held : (n : ℕ) (bs : List BoxId) (xs : List Value) (boxes : Boxes) → BoxesHold n boxes → AreOfKinds n (map (λ (b : BoxId). Some b.kind) bs) xs → BoxesHold n (bind_all boxes bs xs)
-bound_held n [] xs boxes held h = held
-bound_held n (b ∷ bs) [] boxes held h = absurd h
-bound_held n (b ∷ bs) (x ∷ xs) boxes held h = bound_held n bs xs (bind b x boxes) (BoxesHold-bind n b x boxes h.0 held) h.1
-
-pub BoxesHold-bound_to : (n : ℕ) (bs : List BoxId) (xs : List Value) → AreOfKinds n (map (λ (b : BoxId). Some b.kind) bs) xs → BoxesHold n (bound_to bs xs)
-BoxesHold-bound_to n bs xs h = bound_held n bs xs [] (λ b x e. absurd (cc)) h
+pub BoxesHold-bound_to : (decides : BoxesDecide) (n : ℕ) (bs : List BoxId) (xs : List Value) → AreOfKinds n (map (λ (b : BoxId). Some b.kind) bs) xs → BoxesHold n (bound_to bs xs)
+BoxesHold-bound_to decides n bs xs h = bound_held decides n bs xs [] (λ b x e. absurd (cc)) h
 
 own_kind : (n : ℕ) (k : Kind) (x : Value) → IsValueOf n k x → k ≡ kind_of_value x
 own_kind n kind.Int (v.Int z) h = refl

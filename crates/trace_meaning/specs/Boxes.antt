@@ -1,9 +1,12 @@
 -- The values of boxes and of arguments.
-use Rattle.std.specs.Prelude.{◌≡◌, ◌++◌, Bool, true, false, if◌then◌else◌, List, [], ◌∷◌, Option, Some, None}
+use Rattle.std.specs.Prelude.{◌≡◌, ◌++◌, length, Bool, true, false, if◌then◌else◌, List, [], ◌∷◌, Option, Some, None, IsSome}
 use Rattle.std.specs.Map.{lookup}
+use Rattle.std.specs.Bool.{Decides}
+use Rattle.std.specs.List.{AllZip, Contains}
 use Rattle.indexmap.specs.IndexMap.{insert_entry}
 use Rattle.trace_ops.specs.declared.trace.BoxId.{BoxId}
 use Rattle.trace_ops.specs.declared.trace.Arg.{Arg}
+use Rattle.trace_ops.specs.Lawful.{AreDistinct}
 use Rattle.trace_ops.specs.declared.trace.Arg.TheVariants as arg
 use Rattle.trace_ops.specs.contracts.trace.BoxIdPartialEq.TheImpl as box
 use Rattle.trace_meaning.specs.declared.value.Value.{Value}
@@ -19,6 +22,10 @@ same_box b c = box.ghosts.eq b c
 abbrev pub value_in : Boxes → BoxId → Option Value
 value_in boxes b = lookup (same_box b) boxes
 
+-- the box has a value
+abbrev pub HasValue : Boxes → BoxId → Type 0
+HasValue boxes b = IsSome (value_in boxes b)
+
 -- the box has this value
 abbrev pub bind : BoxId → Value → Boxes → Boxes
 bind b x boxes = insert_entry same_box boxes b x
@@ -31,6 +38,17 @@ bind_all boxes (b ∷ bs) (x ∷ xs) = bind_all (bind b x boxes) bs xs
 
 abbrev pub bound_to : List BoxId → List Value → Boxes
 bound_to bs vs = bind_all [] bs vs
+
+abbrev pub BoxesDecide : Type 0
+BoxesDecide = (b c : BoxId) → Decides (same_box b c) (b ≡ c)
+
+-- a box has the value that it got last, and no other box another one
+pub record BindingLaws : Type 0 where
+  pub same : (b : BoxId) (x : Value) (es : Boxes) → value_in (bind b x es) b ≡ Some x
+  pub other : (b c : BoxId) (x : Value) (es : Boxes) → ¬ (c ≡ b) → value_in (bind b x es) c ≡ value_in es c
+  pub all_other : (es : Boxes) (bs : List BoxId) (vs : List Value) (c : BoxId) → ¬ Contains bs c → value_in (bind_all es bs vs) c ≡ value_in es c
+  -- each of distinct boxes has its value
+  pub all_each : (es : Boxes) (bs : List BoxId) (vs : List Value) → AreDistinct bs → length vs ≡ length bs → AllZip (λ b x. value_in (bind_all es bs vs) b ≡ Some x) bs vs
 
 -- the value of an argument, from those of boxes; a class and a function have none
 abbrev pub arg_value : (BoxId → Option Value) → Arg → Option Value

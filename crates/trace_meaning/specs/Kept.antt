@@ -12,6 +12,10 @@ pub record Kept : Type 0 where
 abbrev pub with_world : Kept → World → Kept
 with_world k w = record k { world = w }
 
+-- its objects, and nothing done
+abbrev pub alone : World → World
+alone w = record { objects = w.objects; answers = []; log = []; failures = 0; overflow = false }
+
 -- the table is the one with these prebuilt objects
 abbrev pub IsOf : Table → Kept → Type 0
 IsOf t k = k.prebuilts ≡ length t.prebuilts

@@ -1,5 +1,5 @@
 -- Values of their kinds: in boxes, in objects and in every run.
-use Rattle.std.specs.Prelude.{◌≡◌, ℕ, ◌<◌, List, Option, Some, length, map, slice_get, option_and_then, IsSomeAnd}
+use Rattle.std.specs.Prelude.{◌≡◌, ℕ, ◌<◌, List, [], ◌∷◌, Option, Some, None, length, map, slice_get, option_and_then, IsSomeAnd}
 use Rattle.std.specs.List.{All}
 use Rattle.trace_ops.specs.declared.trace.Kind.{Kind}
 use Rattle.trace_ops.specs.declared.trace.Kind.TheVariants as kind
@@ -33,6 +33,14 @@ IsValueOf objects kind.Int (v.Obj n) = ⊥
 IsValueOf objects kind.Ref (v.Int z) = ⊥
 IsValueOf objects kind.Ref v.Null = Unit {0}
 IsValueOf objects kind.Ref (v.Obj n) = n < objects
+
+-- values of the kinds that are there one after another
+abbrev pub AreOfKinds : ℕ → List (Option Kind) → List Value → Type 0
+AreOfKinds n [] [] = Unit {0}
+AreOfKinds n [] (x ∷ xs) = ⊥
+AreOfKinds n (None ∷ ks) xs = AreOfKinds n ks xs
+AreOfKinds n (Some k ∷ ks) [] = ⊥
+AreOfKinds n (Some k ∷ ks) (x ∷ xs) = IsValueOf n k x × AreOfKinds n ks xs
 
 -- each box that holds a value holds one of its kind
 abbrev pub BoxesHold : ℕ → Boxes → Type 0

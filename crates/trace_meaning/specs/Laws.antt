@@ -1,42 +1,28 @@
 -- What holds of every run.
-use Rattle.std.specs.Prelude.{◌≡◌, ◌↔◌, ℕ, ◌+◌, ◌-◌, ◌<◌, ◌≤◌, true, List, [], ◌∷◌, ◌++◌, Some, IsSome, length, map}
-use Rattle.trace_ops.specs.declared.table.ShapeOf.{ShapeOf}
+use Rattle.std.specs.Prelude.{◌≡◌, ◌↔◌, ℕ, ◌+◌, ◌-◌, ◌<◌, ◌≤◌, true, List, [], ◌∷◌, ◌++◌, Some, IsSome, length, map, max}
+use Rattle.std.specs.List.{All}
 use Rattle.trace_ops.specs.declared.trace.Trace.{Trace}
 use Rattle.trace_ops.specs.declared.trace.TraceSet.{TraceSet}
 use Rattle.trace_ops.specs.WellFormed.{IsWellFormed}
 use Rattle.trace_meaning.specs.declared.value.Value.{Value}
-use Rattle.trace_meaning.specs.declared.value.Object.{Object}
 use Rattle.trace_meaning.specs.declared.call.Answer.{Answer}
 use Rattle.trace_meaning.specs.World.{World}
 use Rattle.trace_meaning.specs.Cuts.{Cuts, Sees, is_bridge_of, seen_bridge}
-use Rattle.trace_meaning.specs.Legs.{Leave, Waits, Misfits, Turn, On, Off, Program, Now, In, Over, At, begins, run, leg, at_leg}
-use Rattle.trace_meaning.specs.Recorded.{RecordedNow, ops_at, recorded, recorded_run, prebuilt_object}
+use Rattle.trace_meaning.specs.Legs.{Waits, Misfits, Over, run}
+use Rattle.trace_meaning.specs.Recorded.{RecordedNow, ops_at, recorded, recorded_run, prebuilt_object, first_world}
 use Rattle.trace_meaning.specs.Observed.{world_of}
-
--- a run that is over is the same after any number of operations
-abbrev pub EndedStays : Type 0
-EndedStays = (set : TraceSet) (cuts : Cuts) (p : ℕ) (l : Leave) (n : ℕ) → run (recorded set cuts) n (Over p l) ≡ Over p l
-
--- m operations and then n are m + n
-abbrev pub RunsOn : Type 0
-RunsOn = (set : TraceSet) (cuts : Cuts) (x : RecordedNow) (m n : ℕ) → run (recorded set cuts) n (run (recorded set cuts) m x) ≡ run (recorded set cuts) (m + n) x
+use Rattle.trace_meaning.specs.Growing.{IsLonger, extent, extents, StepsGrow}
+use Rattle.trace_meaning.specs.RunLaws.{MakesLeg, IsShort, RunLaws}
+use Rattle.trace_meaning.specs.Sound.{HasWord, AnswersWords, CanBegin}
+use Rattle.trace_meaning.specs.Starting.{Starts}
+use Rattle.trace_ops.specs.InRange.{IsInRange}
+use Rattle.trace_ops.specs.Constants.{HasWords}
 
 -- What only grows
-
--- the same, with more behind
-abbrev pub IsLonger : {X : Type 0} → List X → List X → Type 0
-IsLonger {X} before after = (more : List X) × (after ≡ before ++ more)
 
 -- operations add calls behind those that were made, and change none of these
 abbrev pub CallsAreKept : Type 0
 CallsAreKept = (set : TraceSet) (cuts : Cuts) (x : RecordedNow) (n : ℕ) → IsLonger (world_of x).log (world_of (run (recorded set cuts) n x)).log
-
--- an object's shape, and how many parts it has
-abbrev pub extent : Object → ShapeOf × ℕ
-extent o = (o.of, length o.parts)
-
-abbrev pub extents : World → List (ShapeOf × ℕ)
-extents w = map extent w.objects
 
 -- operations add objects behind those that there are, and these keep their shapes and numbers of parts
 abbrev pub ObjectsAreKept : Type 0
@@ -69,27 +55,21 @@ AnswersAreCounted =
 
 -- Legs
 
-abbrev pub IsInside : {P O S : Type 0} → P → Now P O S → Type 0
-IsInside p (In q rest s) = q ≡ p
-IsInside p (Over q l) = ⊥
+-- the greatest number of operations of a trace of the set
+abbrev pub longest : List Trace → ℕ
+longest [] = 0
+longest (t ∷ ts) = max (length t.ops) (longest ts)
 
--- so many operations from the start of code make its leg, and fewer are still inside it
-pub record MakesLeg {P O S : Type 0} (a : Program P O S) (p : P) (vs : List Value) (w : World) (most : ℕ) : Type 0 where
-  pub count : ℕ
-  pub some : 1 ≤ count
-  pub few : count ≤ most
-  pub makes : run a count (begins a p vs w) ≡ at_leg a (leg a (At p vs w))
-  pub inside : (k : ℕ) → k < count → IsInside p (run a k (begins a p vs w))
+abbrev pub most_operations : TraceSet → ℕ
+most_operations set = longest set.traces
 
-abbrev pub Leaves : {S : Type 0} → Turn S → Type 0
-Leaves (On s) = ⊥
-Leaves (Off l) = Unit {0}
+-- each leg of a well-formed set is at most that many operations, or one where there is no trace
+abbrev pub LegsAreShort : Type 0
+LegsAreShort = (set : TraceSet) (cuts : Cuts) (most : ℕ) → IsWellFormed set → 1 ≤ most → most_operations set ≤ most → IsShort (recorded set cuts) most
 
--- there is a last operation, and it never goes on
-abbrev pub EndsByLeaving : {P O S : Type 0} → Program P O S → List O → Type 0
-EndsByLeaving a [] = ⊥
-EndsByLeaving {S = S} a (x ∷ []) = (s : S) → Leaves (a.step x s)
-EndsByLeaving a (x ∷ y ∷ ys) = EndsByLeaving a (y ∷ ys)
+-- recorded runs are as any runs, and only add
+abbrev pub RecordedRuns : Type 0
+RecordedRuns = (set : TraceSet) (cuts : Cuts) → RunLaws (recorded set cuts) × StepsGrow (recorded set cuts)
 
 -- a leg of a trace is at most as many operations as the trace has, and goes wrong by one more where it doesn't end
 abbrev pub LegsAreRuns : Type 0
@@ -111,3 +91,11 @@ SeenIsBridge =
 abbrev pub SeesWhereThereIsOne : Type 0
 SeesWhereThereIsOne =
     (traces : List Trace) (cuts : Cuts) (p n k : ℕ) → IsSome (seen_bridge traces cuts p n k) ↔ ((b : ℕ) × (is_bridge_of traces p n b ≡ true) × Sees cuts k b)
+
+-- Starts
+
+-- a run of a set in range whose constants are words starts where its loop can begin
+abbrev pub StartsCanBegin : Type 0
+StartsCanBegin =
+    (set : TraceSet) (start : ℕ) (inputs : List Value) (answers : List Answer) → IsInRange set → HasWords set → All HasWord inputs → All AnswersWords answers
+    → Starts set start inputs → CanBegin set start inputs (first_world set.table answers)

@@ -29,6 +29,15 @@ abbrev pub drive : {O S : Type 0} → (O → S → Turn S) → (S → World) →
 drive step world [] s = Wrong (world s)
 drive step world (x ∷ xs) s = go_on (step x s) (drive step world xs)
 
+-- as far as operations go
+abbrev pub then_turn : {S : Type 0} → Turn S → (S → Turn S) → Turn S
+then_turn (On s) next = next s
+then_turn (Off l) next = Off l
+
+abbrev pub drive_to : {O S : Type 0} → (O → S → Turn S) → List O → S → Turn S
+drive_to step [] s = On s
+drive_to step (x ∷ xs) s = then_turn (step x s) (drive_to step xs)
+
 -- straight code that leads on; P are its names, O its operations, S its states
 pub record Program (P O S : Type 0) : Type 0 where
   pub ops : P → List O

@@ -17,3 +17,10 @@ pub mod Starting
 pub mod Kinds
 pub mod Routes
 pub mod Laws
+pub mod Growing
+pub mod RunLaws
+pub mod Sound
+pub mod Worded
+pub mod Keeping
+pub mod There
+pub mod Undefined

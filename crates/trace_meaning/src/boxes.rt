@@ -13,8 +13,8 @@ use trace_ops::{Arg, BoxId};
 /// Boxes in the order in which they got a value.
 #[derive(Drop)]
 pub struct Boxes {
-    alloc: Global,
-    values: IndexMap<BoxId, Value>,
+    pub alloc: Global,
+    pub values: IndexMap<BoxId, Value>,
 }
 
 impl Boxes {

@@ -18,7 +18,7 @@ use crate::performing::Done;
 use crate::world::World;
 use crate::{Answer, AnswerStore, CallEvent, Give, Object, Value};
 use std::alloc::{AllocError, Global};
-use trace_ops::{Arg, CallRow, Descr, List, Op, Spot, Table};
+use trace_ops::{Arg, CallRow, Descr, List, Spot, Table};
 
 // The references among the arguments, in order.
 fn references(alloc: Global, values: &[Value]) -> Result<Vec<Value>, AllocError>
@@ -317,20 +317,21 @@ fn called(
 pub fn call(
     alloc: Global,
     table: &Table,
-    op: &Op,
+    descr: Descr,
+    args: &[Arg],
     values: &[Value],
     world: &mut World,
 ) -> Result<Done, AllocError>
     requires of { IsOf table.now world.old }
     requires few { length world.old.world.objects < 2 ^ 31 }
     requires calls { length world.old.world.log < 2 ^ 31 }
-    ensures ok { IfOk result (λ r. IsPerformed (called_by table.now op.now.descr op.now.args values.now world.old.world) r world.old world.new) }
+    ensures ok { IfOk result (λ r. IsPerformed (called_by table.now descr args.now values.now world.old.world) r world.old world.new) }
     ensures err { OnErr result (world.new ≡ world.old) }
 {
-    let Descr::Call(k) = op.descr else {
+    let Descr::Call(k) = descr else {
         return Ok(Done::Bad);
     };
-    let Some(function) = function_in(op.args.items()) else {
+    let Some(function) = function_in(args) else {
         return Ok(Done::Bad);
     };
     match table.calls.items().get(k as usize) {

@@ -1,10 +1,10 @@
 //! What operations do that are no guard, jump or finish.
 
-ghost use Rattle.std.specs.Prelude.{◌≡◌, ◌<◌, ◌^◌, length, IfOk, OnErr, ◌+ℤ◌, ◌-ℤ◌, ◌*ℤ◌};
+ghost use Rattle.std.specs.Prelude.{OnOk, ◌≡◌, ◌<◌, ◌^◌, length, IfOk, OnErr, ◌+ℤ◌, ◌-ℤ◌, ◌*ℤ◌};
 ghost use Rattle.trace_meaning.specs.Performing.{perform as performed, value_done, overflowing as overflowed, get_field as field_got, set_field as field_set, get_item as item_got, set_item as item_set, get_length as length_got, make_structure as structure_made, make_array as array_made, made as made_object};
 ghost use Rattle.trace_meaning.specs.Folding.{fold as fold_values};
 ghost use Rattle.trace_meaning.specs.Kept.{IsOf};
-ghost use Rattle.trace_meaning.specs.Steps.{IsPerformed, write_shown};
+ghost use Rattle.trace_meaning.specs.Steps.{IsNumbered, IsPerformed, write_shown};
 
 use crate::calling::call;
 use crate::folding::fold_pure;
@@ -13,7 +13,7 @@ use crate::world::World;
 use crate::{Object, Value};
 use std::alloc::{AllocError, Global};
 use trace_ops::{
-    Descr, Op, OpCode, Spot, Table, add_overflows, mul_overflows, sub_overflows, wrap_add,
+    Arg, Descr, OpCode, Spot, Table, add_overflows, mul_overflows, sub_overflows, wrap_add,
     wrap_mul, wrap_sub,
 };
 
@@ -208,37 +208,62 @@ fn make_array(
     }
 }
 
-/// An operation, from the values of those arguments that have one.
-pub fn perform(
+// An operation, as its code says.
+fn carry_out(
     alloc: Global,
     table: &Table,
-    op: &Op,
+    operation: OpCode,
+    descr: Descr,
+    args: &[Arg],
     values: &[Value],
     world: &mut World,
 ) -> Result<Done, AllocError>
     requires of { IsOf table.now world.old }
     requires few { length world.old.world.objects < 2 ^ 31 }
     requires calls { length world.old.world.log < 2 ^ 31 }
-    ensures ok { IfOk result (λ r. IsPerformed (performed table.now op.now.code op.now.descr op.now.args values.now world.old.world) r world.old world.new) }
+    ensures ok { IfOk result (λ r. IsPerformed (performed table.now operation descr args.now values.now world.old.world) r world.old world.new) }
     ensures err { OnErr result (world.new ≡ world.old) }
 {
-    match op.code {
+    match operation {
         OpCode::IntAddOvf => Ok(add(values, world)),
         OpCode::IntSubOvf => Ok(subtract(values, world)),
         OpCode::IntMulOvf => Ok(multiply(values, world)),
-        OpCode::GetfieldGcI => Ok(get_field(table, op.descr, values, world)),
-        OpCode::GetfieldGcR => Ok(get_field(table, op.descr, values, world)),
-        OpCode::SetfieldGc => Ok(set_field(table, op.descr, values, world)),
-        OpCode::GetarrayitemGcI => Ok(get_item(table, op.descr, values, world)),
-        OpCode::GetarrayitemGcR => Ok(get_item(table, op.descr, values, world)),
-        OpCode::SetarrayitemGc => Ok(set_item(table, op.descr, values, world)),
-        OpCode::ArraylenGc => Ok(get_length(op.descr, values, world)),
-        OpCode::New => make_structure(alloc, table, op.descr, world),
-        OpCode::NewWithVtable => make_structure(alloc, table, op.descr, world),
-        OpCode::NewArrayClear => make_array(alloc, table, op.descr, values, world),
-        OpCode::CallI => call(alloc, table, op, values, world),
-        OpCode::CallR => call(alloc, table, op, values, world),
-        OpCode::CallN => call(alloc, table, op, values, world),
+        OpCode::GetfieldGcI => Ok(get_field(table, descr, values, world)),
+        OpCode::GetfieldGcR => Ok(get_field(table, descr, values, world)),
+        OpCode::SetfieldGc => Ok(set_field(table, descr, values, world)),
+        OpCode::GetarrayitemGcI => Ok(get_item(table, descr, values, world)),
+        OpCode::GetarrayitemGcR => Ok(get_item(table, descr, values, world)),
+        OpCode::SetarrayitemGc => Ok(set_item(table, descr, values, world)),
+        OpCode::ArraylenGc => Ok(get_length(descr, values, world)),
+        OpCode::New => make_structure(alloc, table, descr, world),
+        OpCode::NewWithVtable => make_structure(alloc, table, descr, world),
+        OpCode::NewArrayClear => make_array(alloc, table, descr, values, world),
+        OpCode::CallI => call(alloc, table, descr, args, values, world),
+        OpCode::CallR => call(alloc, table, descr, args, values, world),
+        OpCode::CallN => call(alloc, table, descr, args, values, world),
         code => Ok(done_with(world, fold_pure(code, values))),
     }
+}
+
+/// An operation, from the values of those arguments that have one. An operation that can't be done changes nothing; after
+/// an error the world is as before.
+pub fn perform(
+    alloc: Global,
+    table: &Table,
+    operation: OpCode,
+    descr: Descr,
+    args: &[Arg],
+    values: &[Value],
+    world: &mut World,
+) -> Result<Done, AllocError>
+    requires of { IsOf table.now world.old }
+    requires few { length world.old.world.objects < 2 ^ 31 }
+    requires calls { length world.old.world.log < 2 ^ 31 }
+    ensures ok { IfOk result (λ r. IsPerformed (performed table.now operation descr args.now values.now world.old.world) r world.old world.new) }
+    ensures table { OnOk result (world.new.prebuilts ≡ world.old.prebuilts) }
+    ensures numbered { IfOk result (λ r. IsNumbered r world.new) }
+    ensures err { OnErr result (world.new ≡ world.old) }
+{
+    let done = carry_out(alloc, table, operation, descr, args, values, world)?;
+    Ok(done)
 }

@@ -3,6 +3,8 @@
 ghost use Rattle.std.specs.Prelude.{◌≡◌, ◌≤◌, ◌++◌, ◌∷◌, [], length, slice_get, filter, IfOk, OnOk};
 ghost use Rattle.std.specs.Option.{unwrap_or};
 ghost use Rattle.trace_meaning.specs.declared.routes.GuardPlace.{GuardPlace};
+ghost use Rattle.trace_ops.specs.declared.trace.TraceSet.{TraceSet};
+ghost use Rattle.trace_meaning.specs.Cuts.{seen_bridge};
 ghost use Rattle.trace_meaning.specs.Routes.{place_left as left_by, guard_left as left_of, leaves, cuts_at, first_due as due, AreTargets, AreRoutes};
 
 use crate::links::{jump_target, trace_at};
@@ -148,13 +150,20 @@ impl Routes {
         self.targets.get(trace as usize).copied().unwrap_or(trace)
     }
 
-    /// The bridge of a guard that the failure of this number sees.
-    pub fn bridge(&self, trace: u32, guard: usize, failure: u64) -> Option<u32>
+    // The bridge of the first cut noted of a guard that a failure is late enough to see.
+    fn noted_bridge(&self, trace: u32, guard: usize, failure: u64) -> Option<u32>
         ensures { result ≡ due (cuts_at self.now.bridges.entries (record { trace = trace; guard = guard })) failure }
     {
         match self.bridges.get(&GuardPlace { trace, guard }) {
             None => None,
             Some(cuts) => first_due(cuts.items(), failure),
         }
+    }
+
+    /// The bridge of a guard that the failure of this number sees, where these are the routes of a set.
+    pub fn bridge(&self, trace: u32, guard: usize, failure: u64) -> Option<u32>
+        ensures { (set : TraceSet) → AreRoutes set self.now → result ≡ seen_bridge set.traces self.now.cuts.items trace guard failure }
+    {
+        self.noted_bridge(trace, guard, failure)
     }
 }

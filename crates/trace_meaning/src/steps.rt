@@ -136,7 +136,15 @@ fn make_plain(
     ensures err { OnErr result (now_of set.now c.new ≡ now_of set.now c.old) }
 {
     c.boxes.reserve()?;
-    let done = perform(alloc, &set.table, op, values, &mut c.world)?;
+    let done = perform(
+        alloc,
+        &set.table,
+        op.code,
+        op.descr,
+        op.args.items(),
+        values,
+        &mut c.world,
+    )?;
     settle_plain(set, c, op.result, done);
     Ok(())
 }

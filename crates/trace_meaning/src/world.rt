@@ -5,7 +5,7 @@ ghost use Rattle.std.specs.Option.{option_copied};
 ghost use Rattle.trace_meaning.specs.World.{failed, events};
 ghost use Rattle.trace_meaning.specs.Objects.{write as written, with_new, with_object, place_within, with_part as part_set};
 ghost use Rattle.trace_meaning.specs.Recorded.{first_world};
-ghost use Rattle.trace_meaning.specs.Kept.{with_event, with_answered, with_world, IsOf, IsDone, allocated};
+ghost use Rattle.trace_meaning.specs.Kept.{with_event, with_answered, with_world, alone, IsOf, IsDone, allocated};
 
 use crate::objects::{is_frozen, place_of, prebuilt_objects, size_of};
 use crate::{Answer, CallEvent, Object, Store, Value};
@@ -69,6 +69,25 @@ impl World {
             used: 0,
             calls: Vec::new(alloc),
             spent: Vec::new(alloc),
+            failures: 0,
+            overflow: false,
+        })
+    }
+
+    /// The same objects, without answers and calls.
+    pub fn objects_alone(&self) -> Result<World, AllocError>
+        ensures { IfOk result (λ w. w ≡ with_world self.now (alone self.now.world)) }
+    {
+        let store = self.store.copy()?;
+        Ok(World {
+            alloc: self.alloc,
+            store,
+            prebuilts: self.prebuilts,
+            bytes: self.bytes,
+            answers: Vec::new(self.alloc),
+            used: 0,
+            calls: Vec::new(self.alloc),
+            spent: Vec::new(self.alloc),
             failures: 0,
             overflow: false,
         })

@@ -4,7 +4,7 @@ use Rattle.trace_ops.specs.declared.table.ShapeOf.{ShapeOf}
 use Rattle.trace_meaning.specs.Recorded.{recorded, prebuilt_object}
 use Rattle.trace_meaning.specs.Observed.{world_of}
 use Rattle.trace_meaning.specs.Legs.{run}
-use Rattle.trace_meaning.specs.Laws.{extent}
+use Rattle.trace_meaning.specs.Growing.{extent}
 use Rattle.trace_meaning.proofs.GrowingRuns.{calls-kept, objects-kept, no_fewer, start-grows}
 use Rattle.trace_meaning.proofs.laws.runs_only_add.Goals as goal
 

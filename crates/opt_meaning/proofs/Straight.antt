@@ -14,8 +14,8 @@ use Rattle.trace_ops.specs.declared.facts.Part.{Part}
 use Rattle.trace_ops.specs.declared.facts.Part.TheVariants as part
 use Rattle.trace_ops.specs.Facts.{takes_of, cites_of, part_of}
 use Rattle.trace_ops.specs.Folds.{unary, binary, word_of, words_taken, integer_arity}
-use Rattle.opt_meaning.specs.Boxes.{Env, value_of, with_box}
-use Rattle.opt_meaning.specs.Step.{Stepped, Goes, Finishes, given, finished_with, opt_step, go_on, opt_run, IsWordOp, IsFinish, IsStraight}
+use Rattle.opt_meaning.specs.StraightBoxes.{Env, value_of, with_box}
+use Rattle.opt_meaning.specs.StraightStep.{Stepped, Goes, Finishes, given, finished_with, opt_step, go_on, opt_run, IsWordOp, IsFinish, IsStraight}
 
 one : (operation : OpCode) (a : ℤ) → integer_arity operation ≡ Some 1 → (w : ℤ) × (unary operation a ≡ Some w)
 one code.IntIsZero a h = (_, refl)

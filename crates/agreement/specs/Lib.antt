@@ -1,0 +1,11 @@
+pub mod Growing
+pub mod Reading
+pub mod Writing
+pub mod Making
+pub mod Guarding
+pub mod Calling
+pub mod Entering
+pub mod Renaming
+pub mod Comparing
+pub mod Performs
+pub mod Spots

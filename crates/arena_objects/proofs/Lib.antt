@@ -1,0 +1,12 @@
+pub mod Places
+pub mod Loads
+pub mod Allocations
+pub mod Walks
+pub mod ReadBacks
+pub mod Spots
+pub mod Walking
+pub mod Starts
+pub mod References
+pub mod Filling
+pub mod Heads
+pub mod Addresses

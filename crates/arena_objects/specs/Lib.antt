@@ -1,0 +1,10 @@
+pub mod Layout
+pub mod Standing
+pub mod Making
+pub mod Walk
+pub mod ReadBack
+pub mod Spots
+pub mod Starting
+pub mod Laws
+pub mod Headers
+pub mod Walked

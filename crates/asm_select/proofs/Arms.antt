@@ -4,15 +4,15 @@ use Rattle.std.specs.Prelude.{◌*ℤ◌, neg_ℤ}
 use Rattle.std.specs.Int.{w64, int_bit_not}
 use Rattle.trace_ops.specs.Words.{shift_of, truth}
 use Rattle.guard_exit.specs.Codes.{register}
-use Rattle.x64_encode.specs.declared.instr.Reg.{Reg}
+use Rattle.target_base.specs.declared.reg.Reg.{Reg}
 use Rattle.x64_encode.specs.declared.instr.AluOp.TheVariants as alu
 use Rattle.x64_encode.specs.declared.instr.ShiftOp.{ShiftOp}
 use Rattle.x64_encode.specs.declared.instr.ShiftOp.TheVariants as shift
 use Rattle.x64_encode.specs.declared.instr.Cc.{Cc}
 use Rattle.x64_encode.specs.declared.instr.Instr.{Instr}
 use Rattle.x64_encode.specs.declared.instr.Instr.TheVariants.{MovReg, Alu, Imul, Not, Neg, ShiftCl, ShiftImm, Xchg, Set, Movzx}
-use Rattle.x64_encode.specs.declared.place.Place.{Place}
-use Rattle.x64_encode.specs.declared.place.Place.TheVariants.{In, Word}
+use Rattle.target_base.specs.declared.place.Place.{Place}
+use Rattle.target_base.specs.declared.place.Place.TheVariants.{In, Word}
 use Rattle.x64_machine.specs.Words.{wrap, unsigned, alu_result, alu_flags, writes, shifted, holds}
 use Rattle.x64_machine.specs.State.{State, one_if}
 use Rattle.asm_select.specs.declared.form.Arith.{Arith}

@@ -9,9 +9,9 @@ use Rattle.std.proofs.lemmas.Bool.Decides.{nat_tests}
 use Rattle.std.proofs.lemmas.Int.{int_wrap_fits}
 use Rattle.trace_ops.specs.Words.{IsWord}
 use Rattle.guard_exit.specs.Codes.{register, frame_mem}
-use Rattle.x64_encode.specs.declared.instr.Reg.{Reg}
-use Rattle.x64_encode.specs.declared.place.Place.{Place}
-use Rattle.x64_encode.specs.declared.place.Place.TheVariants.{In, Word}
+use Rattle.target_base.specs.declared.reg.Reg.{Reg}
+use Rattle.target_base.specs.declared.place.Place.{Place}
+use Rattle.target_base.specs.declared.place.Place.TheVariants.{In, Word}
 use Rattle.x64_machine.specs.Words.{wrap, unsigned}
 use Rattle.x64_machine.specs.State.{State, reg, address, word_at, in_arena, frame_word}
 use Rattle.asm_select.specs.Valued.{r11, r15, value, IsThere, MayHold, IsFit, AllBut}

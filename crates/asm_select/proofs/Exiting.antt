@@ -9,8 +9,8 @@ use Rattle.trace_ops.specs.Words.{IsWord}
 use Rattle.guard_exit.specs.Codes.{register, save, saved, save_code, stub_code, common_code}
 use Rattle.x64_encode.specs.Form.{spelling}
 use Rattle.x64_encode.specs.declared.instr.Instr.TheVariants.{MovImm, Jmp, Ret}
-use Rattle.x64_encode.specs.declared.place.Place.{Place}
-use Rattle.x64_encode.specs.declared.place.Place.TheVariants.{In, Word}
+use Rattle.target_base.specs.declared.place.Place.{Place}
+use Rattle.target_base.specs.declared.place.Place.TheVariants.{In, Word}
 use Rattle.x64_machine.specs.declared.state.Stop.TheVariants.{Returned}
 use Rattle.x64_machine.specs.Words.{wrap, unsigned}
 use Rattle.x64_machine.specs.State.{State, reg, with_reg, rsp, stops, target, word_at, loaded, returns_to}

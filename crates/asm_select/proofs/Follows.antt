@@ -11,8 +11,8 @@ use Rattle.trace_ops.specs.declared.piece.OptOp.{OptOp}
 use Rattle.trace_ops.specs.declared.piece.OptOp.TheVariants as opt
 use Rattle.trace_ops.specs.Words.{IsWord}
 use Rattle.trace_ops.specs.Folds.{unary, binary, word_of}
-use Rattle.opt_meaning.specs.Boxes.{Env, value_of, with_box}
-use Rattle.opt_meaning.specs.Step.{Stepped, Goes, Finishes, Outside, given, finished_with, opt_step, go_on, opt_run}
+use Rattle.opt_meaning.specs.StraightBoxes.{Env, value_of, with_box}
+use Rattle.opt_meaning.specs.StraightStep.{Stepped, Goes, Finishes, Outside, given, finished_with, opt_step, go_on, opt_run}
 use Rattle.x64_machine.specs.State.{State}
 use Rattle.asm_select.specs.Slots.{Slot, Go, puts}
 use Rattle.asm_select.specs.Valued.{value, MayHold, IsFit}

@@ -11,15 +11,15 @@ use Rattle.trace_ops.specs.declared.piece.OptOp.TheVariants as opt
 use Rattle.trace_ops.specs.Pieces.{args_of}
 use Rattle.trace_ops.specs.Words.{shift_of}
 use Rattle.guard_exit.specs.Codes.{register, frame_mem, stub_code}
-use Rattle.x64_encode.specs.declared.instr.Reg.{Reg}
+use Rattle.target_base.specs.declared.reg.Reg.{Reg}
 use Rattle.x64_encode.specs.declared.instr.AluOp.{AluOp}
 use Rattle.x64_encode.specs.declared.instr.AluOp.TheVariants as alu
 use Rattle.x64_encode.specs.declared.instr.ShiftOp.{ShiftOp}
 use Rattle.x64_encode.specs.declared.instr.Cc.{Cc}
 use Rattle.x64_encode.specs.declared.instr.Instr.{Instr}
 use Rattle.x64_encode.specs.declared.instr.Instr.TheVariants.{MovReg, Load, Store, MovImm, Alu, AluImm, Imul, Not, Neg, ShiftCl, ShiftImm, Xchg, Set, Movzx}
-use Rattle.x64_encode.specs.declared.place.Place.{Place}
-use Rattle.x64_encode.specs.declared.place.Place.TheVariants.{In, Word}
+use Rattle.target_base.specs.declared.place.Place.{Place}
+use Rattle.target_base.specs.declared.place.Place.TheVariants.{In, Word}
 use Rattle.x64_encode.specs.Fields.{fits_bits}
 use Rattle.x64_encode.specs.Form.{spelling}
 use Rattle.asm_select.specs.declared.form.Unary.{Unary}

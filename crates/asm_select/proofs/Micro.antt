@@ -6,15 +6,15 @@ use Rattle.std.proofs.lemmas.Bool.{eqb-true, eq-eqb}
 use Rattle.std.proofs.lemmas.Int.{SFits-int_wrap}
 use Rattle.trace_ops.specs.Words.{IsWord}
 use Rattle.guard_exit.specs.Codes.{register, frame_mem}
-use Rattle.x64_encode.specs.declared.instr.Reg.{Reg}
+use Rattle.target_base.specs.declared.reg.Reg.{Reg}
 use Rattle.x64_encode.specs.declared.instr.AluOp.{AluOp}
 use Rattle.x64_encode.specs.declared.instr.ShiftOp.{ShiftOp}
 use Rattle.x64_encode.specs.declared.instr.Cc.{Cc}
 use Rattle.x64_encode.specs.declared.instr.Instr.TheVariants.{MovReg, Load, Store, MovImm, Alu, AluImm, Imul, Not, Neg, ShiftCl, ShiftImm, Xchg, Set, Movzx}
-use Rattle.x64_encode.specs.declared.place.Place.{Place}
-use Rattle.x64_encode.specs.declared.place.Place.TheVariants.{In, Word}
+use Rattle.target_base.specs.declared.place.Place.{Place}
+use Rattle.target_base.specs.declared.place.Place.TheVariants.{In, Word}
 use Rattle.x64_encode.specs.Fields.{fits_bits}
-use Rattle.x64_encode.specs.Arena.{with_arena_word}
+use Rattle.target_base.specs.Arena.{with_arena_word}
 use Rattle.x64_machine.specs.declared.state.Flags.{Flags}
 use Rattle.x64_machine.specs.Words.{wrap, unsigned, undefined, alu_result, alu_flags, writes, imul_flags, neg_flags, shifted, holds}
 use Rattle.x64_machine.specs.State.{State, reg, with_reg, with_flags, address, in_arena, one_if, went, loaded, stored, set_where, with_low_byte}

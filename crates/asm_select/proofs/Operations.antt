@@ -10,7 +10,7 @@ use Rattle.trace_ops.specs.Folds.{unary, binary}
 use Rattle.x64_encode.specs.declared.instr.AluOp.TheVariants as alu
 use Rattle.x64_encode.specs.declared.instr.ShiftOp.TheVariants as shift
 use Rattle.x64_encode.specs.declared.instr.Cc.TheVariants as cc_is
-use Rattle.x64_encode.specs.declared.place.Place.{Place}
+use Rattle.target_base.specs.declared.place.Place.{Place}
 use Rattle.x64_machine.specs.State.{State}
 use Rattle.asm_select.specs.declared.form.Arith.TheVariants.{By, Product}
 use Rattle.asm_select.specs.declared.operand.Operand.{Operand}

@@ -12,7 +12,7 @@ use Rattle.trace_ops.specs.declared.piece.OptOp.{OptOp}
 use Rattle.trace_ops.specs.declared.piece.OptOp.TheVariants as opt
 use Rattle.trace_ops.specs.Words.{shift_of}
 use Rattle.guard_exit.specs.Codes.{register, frame_mem, saved, save_code}
-use Rattle.x64_encode.specs.declared.instr.Reg.{Reg}
+use Rattle.target_base.specs.declared.reg.Reg.{Reg}
 use Rattle.x64_encode.specs.declared.instr.AluOp.{AluOp}
 use Rattle.x64_encode.specs.declared.instr.AluOp.TheVariants as alu
 use Rattle.x64_encode.specs.declared.instr.ShiftOp.{ShiftOp}
@@ -21,8 +21,8 @@ use Rattle.x64_encode.specs.declared.instr.Cc.{Cc}
 use Rattle.x64_encode.specs.declared.instr.Cc.TheVariants as cc_is
 use Rattle.x64_encode.specs.declared.instr.Instr.{Instr}
 use Rattle.x64_encode.specs.declared.instr.Instr.TheVariants.{MovReg, MovImm, Alu, AluImm, Imul, Not, Neg, ShiftCl, ShiftImm, Xchg}
-use Rattle.x64_encode.specs.declared.place.Place.{Place}
-use Rattle.x64_encode.specs.declared.place.Place.TheVariants.{In, Word}
+use Rattle.target_base.specs.declared.place.Place.{Place}
+use Rattle.target_base.specs.declared.place.Place.TheVariants.{In, Word}
 use Rattle.x64_encode.specs.Fields.{fits_bits, alu_digit}
 use Rattle.x64_encode.specs.Form.{HasRow, IsReg, IsPlace}
 use Rattle.asm_select.specs.declared.form.Arith.{Arith}

@@ -7,7 +7,8 @@ use Rattle.x64_encode.specs.Form.{spelling}
 use Rattle.x64_machine.specs.State.{State, went, act}
 use Rattle.x64_machine.specs.Step.{ahead, is_in, Decoded, MachineStep}
 use Rattle.x64_encode.specs.Listing.{Stands}
-use Rattle.asm_select.specs.Slots.{Slot, Put, Jumps, size_of, sizes_of, puts, Lists, Along}
+use Rattle.x64_machine.specs.Running.{Along}
+use Rattle.asm_select.specs.Slots.{Slot, Put, Jumps, size_of, sizes_of, puts, Lists}
 use Rattle.asm_select.specs.Reached.{Reach}
 
 in_both : (code : List ℕ) (at p : ℕ) → at ≡ 0x40000000 + p → p < length code → is_in code at ≡ true

@@ -4,17 +4,18 @@ use Rattle.std.specs.List.{All}
 use Rattle.trace_ops.specs.declared.trace.Arg.{Arg}
 use Rattle.trace_ops.specs.declared.piece.OptOp.{OptOp}
 use Rattle.trace_ops.specs.declared.piece.OptOp.TheVariants as opt
-use Rattle.opt_meaning.specs.Boxes.{Env}
-use Rattle.opt_meaning.specs.Step.{Finishes, opt_run}
+use Rattle.opt_meaning.specs.StraightBoxes.{Env}
+use Rattle.opt_meaning.specs.StraightStep.{Finishes, opt_run}
 use Rattle.guard_exit.specs.Codes.{register, stub_code, common_code}
-use Rattle.x64_encode.specs.declared.place.Place.{Place}
-use Rattle.x64_encode.specs.declared.place.Place.TheVariants.{In, Word}
+use Rattle.target_base.specs.declared.place.Place.{Place}
+use Rattle.target_base.specs.declared.place.Place.TheVariants.{In, Word}
 use Rattle.x64_machine.specs.declared.state.Stop.TheVariants.{Returned}
 use Rattle.x64_machine.specs.State.{State, stops, target}
 use Rattle.x64_machine.specs.Step.{MachineStep}
 use Rattle.asm_select.specs.declared.operand.Operand.{Operand}
 use Rattle.asm_select.specs.declared.operand.Operand.TheVariants.{At, Imm}
-use Rattle.asm_select.specs.Slots.{Slot, Put, Leave, Go, Jumps, Lists, Along, puts, size_of, sizes_of}
+use Rattle.x64_machine.specs.Running.{Along}
+use Rattle.asm_select.specs.Slots.{Slot, Put, Leave, Go, Jumps, Lists, puts, size_of, sizes_of}
 use Rattle.asm_select.specs.Valued.{value, MayHold, IsFit}
 use Rattle.asm_select.specs.Chosen.{Where, operand_of, all_code}
 use Rattle.asm_select.specs.Reached.{Holds, AreApart, HasWords, SameArena}

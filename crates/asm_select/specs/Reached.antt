@@ -9,12 +9,13 @@ use Rattle.trace_ops.specs.declared.piece.OptOp.TheVariants as opt
 use Rattle.trace_ops.specs.Words.{IsWord}
 use Rattle.trace_ops.specs.Parts.{boxes_of}
 use Rattle.trace_ops.specs.Pieces.{results_of, args_of, snapshots_of}
-use Rattle.opt_meaning.specs.Boxes.{Env}
-use Rattle.opt_meaning.specs.Step.{Goes, Finishes, opt_step, opt_run}
+use Rattle.opt_meaning.specs.StraightBoxes.{Env}
+use Rattle.opt_meaning.specs.StraightStep.{Goes, Finishes, opt_step, opt_run}
 use Rattle.x64_machine.specs.State.{State}
 use Rattle.asm_select.specs.declared.operand.Operand.{Operand}
 use Rattle.asm_select.specs.declared.operand.Operand.TheVariants.{At, Imm}
-use Rattle.asm_select.specs.Slots.{Slot, Go, Jumps, Lists, Along, sizes_of}
+use Rattle.x64_machine.specs.Running.{Along}
+use Rattle.asm_select.specs.Slots.{Slot, Go, Jumps, Lists, sizes_of}
 use Rattle.asm_select.specs.Valued.{value, MayHold, IsFit}
 use Rattle.asm_select.specs.Chosen.{Where, operand_of, code_of, all_code}
 

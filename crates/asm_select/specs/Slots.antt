@@ -5,9 +5,6 @@ use Rattle.x64_encode.specs.declared.instr.Instr.TheVariants.{Jcc, Jmp}
 use Rattle.x64_encode.specs.declared.instr.Cc.{Cc}
 use Rattle.x64_encode.specs.Form.{HasRow, spelling}
 use Rattle.x64_encode.specs.Listing.{Stands}
-use Rattle.x64_machine.specs.declared.state.Turn.TheVariants.{Went}
-use Rattle.x64_machine.specs.State.{State, acted}
-use Rattle.x64_machine.specs.Step.{MachineStep}
 
 -- An instruction, or the jump of an operation by its number, whose displacement is set and changed later: one that is
 -- taken on a condition, and one that is always taken.
@@ -53,11 +50,6 @@ HaveRows by (x ∷ xs) = HasRow (instr_of by x) × HaveRows by xs
 abbrev pub Lists : Jumps → List ℕ → ℕ → List Slot → Type 0
 Lists by code p [] = Unit {0}
 Lists by code p (x ∷ xs) = Stands code p (instr_of by x) × Lists by code (p + size_of x) xs
-
--- the machine goes through these states, one instruction each
-abbrev pub Along : List ℕ → List State → State → State → Type 0
-Along code [] s t = s ≡ t
-Along code (u ∷ us) s t = MachineStep code s (acted Went u) × Along code us u t
 
 -- ---- the slots as a list of instructions and a list of jumps
 

@@ -1,7 +1,7 @@
 -- What places hold.
 use Rattle.std.specs.Prelude.{◌≡◌, ◌≢◌, ℕ, ◌<◌, ℤ, pos, length, slice_index_or}
-use Rattle.x64_encode.specs.declared.place.Place.{Place}
-use Rattle.x64_encode.specs.declared.place.Place.TheVariants.{In, Word}
+use Rattle.target_base.specs.declared.place.Place.{Place}
+use Rattle.target_base.specs.declared.place.Place.TheVariants.{In, Word}
 use Rattle.trace_ops.specs.Words.{IsWord}
 use Rattle.guard_exit.specs.Codes.{register}
 use Rattle.x64_machine.specs.State.{State, reg}

@@ -2,7 +2,7 @@
 #![tactic(auto)]
 
 ghost use Rattle.std.specs.Prelude.{IfOk, length};
-ghost use Rattle.opt_meaning.specs.Step.{IsStraight};
+ghost use Rattle.opt_meaning.specs.StraightStep.{IsStraight};
 ghost use Rattle.asm_select.specs.Given.{where_in, AreThere, AreIn, IsSelected};
 
 use crate::draft::Draft;

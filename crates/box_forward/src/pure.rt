@@ -5,7 +5,7 @@ ghost use Rattle.box_forward.specs.Noted.{noted, key, Notes};
 use indexmap::IndexMap;
 use std::alloc::{AllocError, Global};
 use std::marker::Model;
-use trace_ops::{Arg, OpCode};
+use trace_ops::{Arg, OpCode, equality_decides};
 
 /// An operation with its one or two arguments.
 #[derive(Clone, Copy, PartialEq, Eq, Hash)]
@@ -70,6 +70,7 @@ impl Pure {
         ensures ok { OnOk result (Notes self.old self.new code args.now value) }
         ensures err { OnErr result (self.new ≡ self.old) }
     {
+        equality_decides();
         self.known.insert(key_of(code, args), value)?;
         Ok(())
     }

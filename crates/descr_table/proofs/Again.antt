@@ -7,7 +7,8 @@ use Rattle.std.proofs.lemmas.List.{append-nil}
 use Rattle.std.proofs.lemmas.Slice.Eq.{bytes_eq-Decides}
 use Rattle.text_lines.specs.Words.{is_name, is_letter}
 use Rattle.text_lines.specs.Numbers.{integer_of, decimal_of, decimal_behind}
-use Rattle.text_lines.specs.Reading.{◌>>=◌, name_at, key_at}
+use Rattle.lists.specs.Binds.{◌>>=◌}
+use Rattle.text_lines.specs.Reading.{name_at, key_at}
 use Rattle.trace_ops.specs.declared.trace.Kind.{Kind}
 use Rattle.trace_ops.specs.declared.trace.Kind.TheVariants.{Int, Ref}
 use Rattle.descr_table.specs.declared.form.Form.{Form}

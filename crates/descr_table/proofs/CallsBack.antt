@@ -12,17 +12,19 @@ use Rattle.trace_ops.specs.declared.table.CallRow.{CallRow}
 use Rattle.trace_ops.specs.declared.table.PrebuiltRow.{PrebuiltRow}
 use Rattle.trace_ops.specs.declared.table.Table.{Table}
 use Rattle.trace_ops.specs.declared.table.What.TheVariants as what
-use Rattle.descr_table.proofs.Counts.{count, one_if, count-append, free_count, itself, is_known, place_is, get-map}
+use Rattle.descr_table.proofs.Counts.{count, one_if, count-append, free_count, is_known, place_is}
 use Rattle.descr_table.proofs.Readable.{Each, IsReadable}
 use Rattle.std.specs.List.{list_any}
 use Rattle.std.proofs.lemmas.List.{length-map}
+use Rattle.lists.proofs.Bools.{or_false, bytes_itself}
+use Rattle.lists.proofs.Places.{get_map}
 use Rattle.descr_table.specs.declared.form.Form.TheVariants.{Function}
 use Rattle.descr_table.specs.Meaning.{is_misplaced, is_twice, is_unknown, is_bad_initial, or_else, full, over, limit_at, place, put_at, put}
-use Rattle.descr_table.specs.Writing.{field_name, field_name_in}
+use Rattle.descr_table.specs.Names.{field_name, field_name_in}
 use Rattle.descr_table.proofs.Counts.{number_is}
 use Rattle.descr_table.specs.Meaning.{place}
 use Rattle.text_lines.specs.Names.{number_of}
-use Rattle.descr_table.proofs.Clear.{IsClear, not_refused, false_or, false_not, of_none, none_full, none_over, none_else}
+use Rattle.descr_table.proofs.Clear.{IsClear, not_refused, false_not, of_none, none_full, none_over, none_else}
 use Rattle.descr_table.proofs.Readable.{Reads, Writes, IsCall}
 use Rattle.descr_table.proofs.RowForms.{call_form, Goes}
 use Rattle.descr_table.proofs.ShapesBack.{stands_in}
@@ -50,7 +52,7 @@ pub record FieldOf (t : Table) (f : ℕ) (row : FieldRow) : Type 0 where
 pub field_of : (d : Names) (t : Table) (f : ℕ) (row : FieldRow) → slice_get t.fields f ≡ Some row → IsReadable d t → FieldOf t f row
 field_of d t f row at h =
     let named : field_name t f ≡ row.name = ap field_name_in at in
-    let here : slice_get (field_names t) f ≡ Some (field_name t f) = get-map (λ (r : FieldRow). r.name) t.fields f row at ∙ ap Some (sym named) in
+    let here : slice_get (field_names t) f ≡ Some (field_name t f) = get_map (λ (r : FieldRow). r.name) t.fields f row at ∙ ap Some (sym named) in
     let once : count (field_name t f) (field_names t) ≤ 1 = omega (arith, h.named (field_name t f)) in
     record { named = named; known = is_known (field_name t f) (field_names t) f here; number = number_is (field_name t f) (field_names t) f here once; at_place = place_is (field_name t f) (field_names t) f here once }
 
@@ -86,8 +88,8 @@ call_clear d t done r rest e call h =
     let lt : length done < 1024 = omega (arith, ap length e, length-append done (r ∷ rest), h.few_calls) in
     record {
       placed = refl;
-      new = false_or (has_name r.name sizes || has_name r.name (field_names t)) (has_name r.name arrays || has_name r.name calls) (false_or (has_name r.name sizes) (has_name r.name (field_names t)) a b) (false_or (has_name r.name arrays) (has_name r.name calls) c f);
-      known = false_or (list_any (λ n. not (has_name n (field_names t))) reads) (list_any (λ n. not (has_name n (field_names t))) writes) (of_none (λ n. not (has_name n (field_names t))) reads (reads_known d t r.reads call.reads h)) (of_none (λ n. not (has_name n (field_names t))) writes (writes_known d t r.writes call.writes h));
+      new = or_false (has_name r.name sizes || has_name r.name (field_names t)) (has_name r.name arrays || has_name r.name calls) (or_false (has_name r.name sizes) (has_name r.name (field_names t)) a b) (or_false (has_name r.name arrays) (has_name r.name calls) c f);
+      known = or_false (list_any (λ n. not (has_name n (field_names t))) reads) (list_any (λ n. not (has_name n (field_names t))) writes) (of_none (λ n. not (has_name n (field_names t))) reads (reads_known d t r.reads call.reads h)) (of_none (λ n. not (has_name n (field_names t))) writes (writes_known d t r.writes call.writes h));
       fits = refl;
       few = none_else (full what.Calls 1024 (length done)) (or_else (over what.Arguments 6 (length r.args)) (or_else (over what.Reads 16 (length reads)) (over what.Writes 16 (length writes)))) (none_full what.Calls 1024 (length done) lt)
           (none_else (over what.Arguments 6 (length r.args)) (or_else (over what.Reads 16 (length reads)) (over what.Writes 16 (length writes))) (none_over what.Arguments 6 (length r.args) call.arguments)
@@ -115,12 +117,12 @@ function_clear : (d : Names) (t : Table) (done : Names) (n : List ℕ) (rest : N
 unfolding is_misplaced is_twice is_unknown is_bad_initial limit_at
 function_clear d t done n rest e h =
     let vtables = flat_map vtable_of t.sizes in
-    let own : one_if (bytes_eq n n) ≡ 1 = rw (itself n) refl in
+    let own : one_if (bytes_eq n n) ≡ 1 = rw (bytes_itself n) refl in
     let all : count n t.functions ≡ count n done + count n (n ∷ rest) = ap (count n) e ∙ count-append n done (n ∷ rest) in
     let a : has_name n vtables ≡ false = free_count n vtables (omega (arith, own, all, h.classes n)) in
     let b : has_name n done ≡ false = free_count n done (omega (arith, own, all, h.classes n)) in
     let lt : length done < 1024 = omega (arith, ap length e, length-append done (n ∷ rest), h.few_functions) in
-    record { placed = refl; new = false_or (has_name n vtables) (has_name n done) a b; known = refl; fits = refl; few = none_full what.Functions 1024 (length done) lt }
+    record { placed = refl; new = or_false (has_name n vtables) (has_name n done) a b; known = refl; fits = refl; few = none_full what.Functions 1024 (length done) lt }
 
 pub functions_go : (d : Names) (t : Table) (done rest : Names) → t.functions ≡ done ++ rest → IsReadable d t → Goes d (rows_so_far t t.calls done []) (map (λ n. Function n) rest) (rows_so_far t t.calls t.functions [])
 unfolding put_at

@@ -1,8 +1,9 @@
 -- What a line that isn't refused passes.
 use Rattle.std.proofs.Common.{◌≡◌, ℕ, ◌+◌, ◌<◌, ◌≤◌, Bool, true, false, cond, ltb, leb, List, [], ◌∷◌, Option, Some, None, refl}
-use Rattle.std.specs.Prelude.{◌||◌, not}
+use Rattle.std.specs.Prelude.{not}
 use Rattle.std.specs.List.{list_any, AllByRecursion}
-use Rattle.std.proofs.lemmas.Bool.{ltb-true, leb-true, lt-ltb, le-leb}
+use Rattle.std.proofs.lemmas.Bool.{ltb-true, leb-true, lt-ltb, le-leb, or_parts}
+use Rattle.lists.proofs.Bools.{or_false}
 use Rattle.text_lines.specs.Reading.{first_of}
 use Rattle.trace_ops.specs.declared.table.Table.{Table}
 use Rattle.trace_ops.specs.declared.table.What.{What}
@@ -49,27 +50,16 @@ not_refused f d t h = refused_by (is_misplaced f t) (is_twice f (names_of t)) (i
 
 -- ---- tests
 
-pub or_false : (a b : Bool) → (a || b) ≡ false → (a ≡ false) × (b ≡ false)
-or_false true b e = absurd cc
-or_false false b e = (refl, e)
-
-pub false_or : (a b : Bool) → a ≡ false → b ≡ false → (a || b) ≡ false
-false_or a b e f = rw (e, f) refl
-
-pub not_false : (b : Bool) → not b ≡ false → b ≡ true
-not_false true e = refl
-not_false false e = absurd cc
-
 pub false_not : (b : Bool) → b ≡ true → not b ≡ false
 false_not b e = rw e refl
 
 pub none_of : {X : Type 0} (p : X → Bool) (xs : List X) → list_any p xs ≡ false → AllByRecursion (λ x. p x ≡ false) xs
 none_of p [] e = tt
-none_of p (x ∷ xs) e = let h = or_false (p x) (list_any p xs) e in (h.0, none_of p xs h.1)
+none_of p (x ∷ xs) e = let h = or_parts (p x) (list_any p xs) e in (h.0, none_of p xs h.1)
 
 pub of_none : {X : Type 0} (p : X → Bool) (xs : List X) → AllByRecursion (λ x. p x ≡ false) xs → list_any p xs ≡ false
 of_none p [] h = refl
-of_none p (x ∷ xs) h = false_or (p x) (list_any p xs) h.0 (of_none p xs h.1)
+of_none p (x ∷ xs) h = or_false (p x) (list_any p xs) h.0 (of_none p xs h.1)
 
 -- ---- limits
 

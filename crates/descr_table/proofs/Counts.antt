@@ -3,9 +3,11 @@ use Rattle.std.proofs.Common.{◌≡◌, ℕ, zero, suc, ◌+◌, ◌<◌, ◌�
 use Rattle.std.specs.Prelude.{◌||◌, not, slice_get, unwrap_or}
 use Rattle.std.specs.Str.{bytes_eq}
 use Rattle.std.specs.List.{position_or_len}
-use Rattle.std.proofs.lemmas.Slice.Eq.{bytes_eq-Decides}
 use Rattle.std.proofs.lemmas.Bool.{lt-ltb}
 use Rattle.std.proofs.lemmas.List.{map-id}
+use Rattle.lists.proofs.Bools.{bytes_same, bytes_itself}
+use Rattle.std.proofs.lemmas.Option.{slice_get_within}
+use Rattle.lists.proofs.Places.{get_map}
 use Rattle.text_lines.specs.Names.{has_name, number_of}
 use Rattle.descr_table.specs.Meaning.{place}
 
@@ -20,12 +22,6 @@ one_if b = cond b 1 0
 abbrev pub count : List ℕ → Names → ℕ
 count n [] = 0
 count n (x ∷ xs) = one_if (bytes_eq n x) + count n xs
-
-pub same : (n m : List ℕ) → bytes_eq n m ≡ true → n ≡ m
-same n m e = (bytes_eq-Decides n m).0 e
-
-pub itself : (n : List ℕ) → bytes_eq n n ≡ true
-itself n = (bytes_eq-Decides n n).1 refl
 
 pub count-append : (n : List ℕ) (xs ys : Names) → count n (xs ++ ys) ≡ count n xs + count n ys
 count-append n [] ys = sym (zero-add (count n ys))
@@ -52,7 +48,7 @@ free_count n (x ∷ xs) e = free_by (bytes_eq n x) (has_name n xs) (count n xs) 
 
 -- a name that stands nowhere yet may be added
 one_more_by : (b : Bool) (f : List ℕ → ℕ) (n m : List ℕ) → bytes_eq n m ≡ b → f m ≡ 0 → f n ≤ 1 → f n + one_if b ≤ 1
-one_more_by true f n m e z le = let is : f n ≡ 0 = ap f (same n m e) ∙ z in omega arith
+one_more_by true f n m e z le = let is : f n ≡ 0 = ap f (bytes_same n m e) ∙ z in omega arith
 one_more_by false f n m e z le = omega arith
 
 pub one_more : (f : List ℕ → ℕ) (n m : List ℕ) → f m ≡ 0 → f n ≤ 1 → f n + one_if (bytes_eq n m) ≤ 1
@@ -61,14 +57,14 @@ one_more f n m z le = one_more_by (bytes_eq n m) f n m refl z le
 -- a name that stands once isn't among those in front
 pub free_before : (m : List ℕ) (done rest : Names) → count m (done ++ m ∷ rest) ≤ 1 → has_name m done ≡ false
 free_before m done rest le =
-    let is : one_if (bytes_eq m m) ≡ 1 = rw (itself m) refl in
+    let is : one_if (bytes_eq m m) ≡ 1 = rw (bytes_itself m) refl in
     free_count m done (omega (arith, count-append m done (m ∷ rest), is))
 
 pub stands : (m : List ℕ) (names : Names) (k : ℕ) → slice_get names k ≡ Some m → 0 < count m names
 stands m [] k e = absurd cc
 stands m (x ∷ xs) zero e =
     let is : x ≡ m = cc in
-    let one : one_if (bytes_eq m x) ≡ 1 = rw (is, itself m) refl in
+    let one : one_if (bytes_eq m x) ≡ 1 = rw (is, bytes_itself m) refl in
     omega arith
 stands m (x ∷ xs) (suc k) e = omega (arith, stands m xs k e)
 
@@ -93,29 +89,19 @@ pub first_is : (m : List ℕ) (names : Names) (k : ℕ) → slice_get names k �
 first_is m [] k e le = absurd cc
 first_is m (x ∷ xs) zero e le =
     let is : x ≡ m = cc in
-    let one : bytes_eq m x ≡ true = rw (is, itself m) refl in
+    let one : bytes_eq m x ≡ true = rw (is, bytes_itself m) refl in
     rw one refl
 first_is m (x ∷ xs) (suc k) e le =
     first_later (bytes_eq m x) (count m xs) (first m xs) (stands m xs k e) le ∙ ap suc (first_is m xs k e (omega arith))
 
-pub within : {X : Type 0} (xs : List X) (k : ℕ) (x : X) → slice_get xs k ≡ Some x → k < length xs
-within [] k x e = absurd cc
-within (y ∷ ys) zero x e = omega arith
-within (y ∷ ys) (suc k) x e = omega (arith, within ys k x e)
-
 pub number_is : (m : List ℕ) (names : Names) (k : ℕ) → slice_get names k ≡ Some m → count m names ≤ 1 → number_of m names ≡ Some k
 number_is m names k e le =
     let at = first_is m names k e le in
-    let lt : first m names < length names = omega (arith, at, within names k m e) in
+    let lt : first m names < length names = omega (arith, at, slice_get_within names k m e) in
     rw (lt-ltb (first m names) (length names) lt) (ap Some at)
 
 pub place_is : (m : List ℕ) (names : Names) (k : ℕ) → slice_get names k ≡ Some m → count m names ≤ 1 → place m names ≡ k
 place_is m names k e le = ap (λ o. unwrap_or o 0) (number_is m names k e le)
-
-pub get-map : {X Y : Type 0} (g : X → Y) (rows : List X) (k : ℕ) (r : X) → slice_get rows k ≡ Some r → slice_get (map g rows) k ≡ Some (g r)
-get-map g [] k r e = absurd cc
-get-map g (x ∷ xs) zero r e = let is : x ≡ r = cc in ap (λ y. Some (g y)) is
-get-map g (x ∷ xs) (suc k) r e = get-map g xs k r e
 
 -- the row of a known name
 pub record Stands {X : Type 0} (g : X → List ℕ) (rows : List X) (m : List ℕ) : Type 0 where
@@ -126,7 +112,7 @@ pub record Stands {X : Type 0} (g : X → List ℕ) (rows : List X) (m : List �
 
 found_by : {X : Type 0} (b : Bool) (g : X → List ℕ) (x : X) (xs : List X) (m : List ℕ) → bytes_eq m (g x) ≡ b → (b || has_name m (map g xs)) ≡ true
     → (has_name m (map g xs) ≡ true → (r : X) × (slice_get xs (first m (map g xs)) ≡ Some r) × (g r ≡ m)) → (r : X) × (slice_get (x ∷ xs) (first m (map g (x ∷ xs))) ≡ Some r) × (g r ≡ m)
-found_by true g x xs m e h others = (x, rw e refl, sym (same m (g x) e))
+found_by true g x xs m e h others = (x, rw e refl, sym (bytes_same m (g x) e))
 found_by false g x xs m e h others =
     let r = others h in
     let one : 1 + first m (map g xs) ≡ suc (first m (map g xs)) = omega arith in
@@ -139,21 +125,12 @@ found g (x ∷ xs) m h = found_by (bytes_eq m (g x)) g x xs m refl h (found g xs
 pub row_of : {X : Type 0} (g : X → List ℕ) (rows : List X) (m : List ℕ) → has_name m (map g rows) ≡ true → Stands g rows m
 row_of g rows m h =
     let f = found g rows m h in
-    let lt : first m (map g rows) < length (map g rows) = within (map g rows) (first m (map g rows)) (g f.0) (get-map g rows (first m (map g rows)) f.0 f.1) in
+    let lt : first m (map g rows) < length (map g rows) = slice_get_within (map g rows) (first m (map g rows)) (g f.0) (get_map g rows (first m (map g rows)) f.0 f.1) in
     let number : number_of m (map g rows) ≡ Some (first m (map g rows)) = rw (lt-ltb (first m (map g rows)) (length (map g rows)) lt) refl in
     let at : place m (map g rows) ≡ first m (map g rows) = ap (λ o. unwrap_or o 0) number in
     record { row = f.0; at = ap (slice_get rows) at ∙ f.1; named = f.2; number = number ∙ ap Some (sym at) }
 
 -- the list of rows grows
-pub get-append : {X : Type 0} (xs ys : List X) (k : ℕ) (x : X) → slice_get xs k ≡ Some x → slice_get (xs ++ ys) k ≡ Some x
-get-append [] ys k x e = absurd cc
-get-append (y ∷ xs) ys zero x e = e
-get-append (y ∷ xs) ys (suc k) x e = get-append xs ys k x e
-
-pub get-middle : {X : Type 0} (xs : List X) (x : X) (ys : List X) → slice_get (xs ++ x ∷ ys) (length xs) ≡ Some x
-get-middle [] x ys = refl
-get-middle (y ∷ xs) x ys = get-middle xs x ys
-
 pub named_at : (m : List ℕ) (names : Names) → has_name m names ≡ true → slice_get names (place m names) ≡ Some m
 named_at m names e =
     let all : map (λ (x : List ℕ). x) names ≡ names = map-id names in

@@ -2,6 +2,10 @@
 use Rattle.std.proofs.Common.{◌≡◌, ℕ, zero, suc, ◌+◌, ◌<◌, ◌≤◌, Bool, true, false, cond, List, [], ◌∷◌, ◌++◌, length, map, Some, refl, sym, ap, subst, ◌∙◌, arith, append_assoc, zero-add}
 use Rattle.std.specs.Prelude.{slice_get, nat_eq, ◌||◌}
 use Rattle.std.proofs.lemmas.List.{append-nil}
+use Rattle.lists.proofs.Bools.{or_false}
+use Rattle.lists.proofs.Places.{get_map, get_some}
+use Rattle.lists.proofs.Eaches.{each_at}
+use Rattle.lists.proofs.Appends.{length_push}
 use Rattle.text_lines.specs.Names.{has_name}
 use Rattle.trace_ops.specs.InRange.{places_from}
 use Rattle.trace_ops.specs.declared.table.SizeRow.{SizeRow}
@@ -10,10 +14,10 @@ use Rattle.trace_ops.specs.declared.table.ArrayRow.{ArrayRow}
 use Rattle.trace_ops.specs.declared.table.Table.{Table}
 use Rattle.trace_ops.specs.declared.table.What.TheVariants as what
 use Rattle.descr_table.specs.Meaning.{is_misplaced, is_twice, is_unknown, is_bad_initial, limit_at, place, fields_in, with_field, put_at, put}
-use Rattle.descr_table.specs.Writing.{size_name, size_name_in}
-use Rattle.descr_table.proofs.Counts.{count, free_count, is_known, place_is, get-map}
-use Rattle.descr_table.proofs.Clear.{IsClear, not_refused, false_or, false_not, none_full}
-use Rattle.descr_table.proofs.Readable.{Each, length-last, fields_at, Listing, listing_field, fields-last, IsSize, IsReadable}
+use Rattle.descr_table.specs.Names.{size_name, size_name_in}
+use Rattle.descr_table.proofs.Counts.{count, free_count, is_known, place_is}
+use Rattle.descr_table.proofs.Clear.{IsClear, not_refused, false_not, none_full}
+use Rattle.descr_table.proofs.Readable.{Each, fields_at, Listing, listing_field, fields-last, IsSize, IsReadable}
 use Rattle.descr_table.proofs.RowForms.{field_form, Goes}
 use Rattle.descr_table.proofs.ShapesBack.{stands_in, shapes_so_far}
 use Rattle.descr_table.proofs.KeepsRoots.{listing_at}
@@ -79,17 +83,7 @@ few_before : (k : ℕ) (all done : List FieldRow) (f : FieldRow) (rest : List Fi
 few_before k all done f rest e is le =
     let split : all ≡ (done ++ f ∷ []) ++ rest = e ∙ sym (append_assoc done (f ∷ []) rest) in
     let more : length (fields_at k (done ++ f ∷ [])) ≤ length (fields_at k all) = subst (λ (xs : List FieldRow). length (fields_at k (done ++ f ∷ [])) ≤ length (fields_at k xs)) (sym split) (more_places (λ (x : FieldRow). nat_eq x.size k) 0 (done ++ f ∷ []) rest) in
-    omega (arith, more, le, ap length (fields-last k done f is), length-last (fields_at k done) (length done))
-
-pub get_each : {X : Type 0} (P : X → Type 0) (xs : List X) (k : ℕ) (x : X) → Each P xs → slice_get xs k ≡ Some x → P x
-get_each P [] k x h e = absurd cc
-get_each P (y ∷ ys) zero x h e = let is : y ≡ x = cc in subst P is h.0
-get_each P (y ∷ ys) (suc k) x h e = get_each P ys k x h.1 e
-
-pub get_some : {X : Type 0} (xs : List X) (k : ℕ) → k < length xs → (x : X) × (slice_get xs k ≡ Some x)
-get_some [] k lt = absurd (omega arith)
-get_some (x ∷ xs) zero lt = (x, refl)
-get_some (x ∷ xs) (suc k) lt = get_some xs k (omega arith)
+    omega (arith, more, le, ap length (fields-last k done f is), length_push (fields_at k done) (length done))
 
 abbrev pub fields_so_far : Table → List FieldRow → Table
 fields_so_far t fs = record { shapes = t.shapes; sizes = filled 0 fs t.sizes; fields = fs; arrays = t.arrays; calls = []; functions = []; prebuilts = [] }
@@ -107,7 +101,7 @@ size_of d t fs k lt h =
     let r = get_some t.sizes k lt in
     let named : size_name t k ≡ r.0.name = ap size_name_in r.1 in
     let names : map (λ (x : SizeRow). x.name) t.sizes ≡ map (λ (x : SizeRow). x.name) (filled 0 fs t.sizes) = sym (filled_names 0 fs t.sizes) in
-    let stands : slice_get (map (λ (x : SizeRow). x.name) t.sizes) k ≡ Some r.0.name = get-map (λ (x : SizeRow). x.name) t.sizes k r.0 r.1 in
+    let stands : slice_get (map (λ (x : SizeRow). x.name) t.sizes) k ≡ Some r.0.name = get_map (λ (x : SizeRow). x.name) t.sizes k r.0 r.1 in
     let here : slice_get (map (λ (x : SizeRow). x.name) (filled 0 fs t.sizes)) k ≡ Some (size_name t k) = sym (ap (λ (l : Names). slice_get l k) names) ∙ stands ∙ ap Some (sym named) in
     let once : count (size_name t k) (map (λ (x : SizeRow). x.name) (filled 0 fs t.sizes)) ≤ 1 = omega (arith, ap (count (size_name t k)) names, h.named (size_name t k)) in
     record { row = r.0; at = r.1; named = named; known = is_known (size_name t k) (map (λ (x : SizeRow). x.name) (filled 0 fs t.sizes)) k here; place_is = place_is (size_name t k) (map (λ (x : SizeRow). x.name) (filled 0 fs t.sizes)) k here once }
@@ -124,13 +118,13 @@ field_clear d t done f rest e lt h =
     let free_fields : has_name f.name (map (λ (x : FieldRow). x.name) done) ≡ false = free_count f.name (map (λ (x : FieldRow). x.name) done) b in
     let free_arrays : has_name f.name (map (λ (x : ArrayRow). x.name) t.arrays) ≡ false = free_count f.name (map (λ (x : ArrayRow). x.name) t.arrays) c in
     let own : size.row.fields ≡ fields_at f.size t.fields = listing_at 0 t.fields t.sizes f.size size.row h.listing size.at ∙ ap (λ n. fields_at n t.fields) (zero-add f.size) in
-    let whole : length (fields_at f.size t.fields) ≤ 64 = omega (arith, ap length own, (get_each IsSize t.sizes f.size size.row h.sizes size.at).few) in
+    let whole : length (fields_at f.size t.fields) ≤ 64 = omega (arith, ap length own, (each_at IsSize t.sizes f.size size.row h.sizes size.at).few) in
     let before : length (fields_at f.size done) < 64 = few_before f.size t.fields done f rest e refl whole in
     let rows : fields_in (slice_get (filled 0 done t.sizes) (place (size_name t f.size) (map (λ (r : SizeRow). r.name) (filled 0 done t.sizes)))) ≡ fields_at f.size done = ap (λ n. fields_in (slice_get (filled 0 done t.sizes) n)) size.place_is ∙ filled_at 0 done t.sizes f.size size.row size.at ∙ ap (λ n. fields_at n done) (zero-add f.size) in
     record {
       placed = refl;
-      new = false_or (has_name f.name (map (λ (x : SizeRow). x.name) (filled 0 done t.sizes)) || has_name f.name (map (λ (x : FieldRow). x.name) done)) (has_name f.name (map (λ (x : ArrayRow). x.name) t.arrays) || false)
-          (false_or (has_name f.name (map (λ (x : SizeRow). x.name) (filled 0 done t.sizes))) (has_name f.name (map (λ (x : FieldRow). x.name) done)) free_sizes free_fields) (false_or (has_name f.name (map (λ (x : ArrayRow). x.name) t.arrays)) false free_arrays refl);
+      new = or_false (has_name f.name (map (λ (x : SizeRow). x.name) (filled 0 done t.sizes)) || has_name f.name (map (λ (x : FieldRow). x.name) done)) (has_name f.name (map (λ (x : ArrayRow). x.name) t.arrays) || false)
+          (or_false (has_name f.name (map (λ (x : SizeRow). x.name) (filled 0 done t.sizes))) (has_name f.name (map (λ (x : FieldRow). x.name) done)) free_sizes free_fields) (or_false (has_name f.name (map (λ (x : ArrayRow). x.name) t.arrays)) false free_arrays refl);
       known = false_not (has_name (size_name t f.size) (map (λ (r : SizeRow). r.name) (filled 0 done t.sizes))) size.known;
       fits = refl;
       few = none_full what.Fields 64 (length (fields_in (slice_get (filled 0 done t.sizes) (place (size_name t f.size) (map (λ (r : SizeRow). r.name) (filled 0 done t.sizes)))))) (omega (arith, ap length rows, before));

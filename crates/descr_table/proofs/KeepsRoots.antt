@@ -3,6 +3,10 @@ use Rattle.std.proofs.Common.{◌≡◌, ℕ, zero, suc, ◌+◌, ◌≤◌, Boo
 use Rattle.std.specs.Prelude.{◌||◌, not, slice_get, nat_eq}
 use Rattle.std.specs.Str.{bytes_eq}
 use Rattle.std.specs.List.{list_any}
+use Rattle.std.proofs.lemmas.Bool.{or_parts, not-false}
+use Rattle.lists.proofs.Bools.{bytes_same}
+use Rattle.lists.proofs.Places.{get_map}
+use Rattle.lists.proofs.Eaches.{each_push}
 use Rattle.text_lines.specs.Names.{has_name, number_of}
 use Rattle.trace_ops.specs.declared.trace.Kind.{Kind}
 use Rattle.trace_ops.specs.declared.trace.Kind.TheVariants as kind
@@ -20,10 +24,10 @@ use Rattle.descr_table.specs.declared.form.Part.{Part}
 use Rattle.descr_table.specs.Known.{names_of, repeats}
 use Rattle.descr_table.specs.Meaning.{is_twice, is_unknown, is_undefined, is_bad_initial, is_bad_field, is_bad_item, is_of, row_at, place, fields_in, bytes_of, refusal, given_for, initial_of, initial_or, default_of, field_initial, put_at, put}
 use Rattle.descr_table.specs.Spelling.{IsForm}
-use Rattle.descr_table.proofs.Counts.{count, count_free, one_more, number_is, row_of, named_at, get-map, same}
-use Rattle.descr_table.proofs.Clear.{IsClear, clear, or_false, not_false, none_of}
+use Rattle.descr_table.proofs.Counts.{count, count_free, one_more, number_is, row_of, named_at}
+use Rattle.descr_table.proofs.Clear.{IsClear, clear, none_of}
 use Rattle.descr_table.proofs.Noted.{bytes_put, fits}
-use Rattle.descr_table.proofs.Readable.{Each, each-last, fields_at, Listing, places_hold, Holds, HoldFields, HasBody, IsRoot, IsReadable}
+use Rattle.descr_table.proofs.Readable.{Each, fields_at, Listing, places_hold, Holds, HoldFields, HasBody, IsRoot, IsReadable}
 use Rattle.descr_table.proofs.Keeps.{IsRanged, AreRanged, count-row, keeps_size, keeps_field, keeps_array, keeps_call, keeps_function}
 
 abbrev Names : Type 0
@@ -36,7 +40,7 @@ value_holds d (given.Int z) kind.Ref e u r = absurd cc
 value_holds d given.Null kind.Int e u r = absurd cc
 value_holds d given.Null kind.Ref e u r = tt
 value_holds d (given.Name n) kind.Int e u r = absurd cc
-value_holds d (given.Name n) kind.Ref e u r = (n, named_at n d (not_false (has_name n d) u), r)
+value_holds d (given.Name n) kind.Ref e u r = (n, named_at n d (not-false (has_name n d) u), r)
 
 default_holds : (d : Names) (k : Kind) → Holds d k (default_of k)
 default_holds d kind.Int = omega arith
@@ -49,18 +53,18 @@ pub record IsPart (d : Names) (fields : List FieldRow) (size : ℕ) (p : Part) :
   pub ranged : IsRanged p.value
 
 part_holds : (d : Names) (fields : List FieldRow) (size j : ℕ) (row : FieldRow) (p : Part) → number_of row.name (map (λ (r : FieldRow). r.name) fields) ≡ Some j → slice_get fields j ≡ Some row → p.name ≡ row.name → IsPart d fields size p → Holds d row.kind (initial_of d p.value)
-part_holds d fields size j row p number at same h =
+part_holds d fields size j row p number at bytes_same h =
     let names = map (λ (r : FieldRow). r.name) fields in
-    let here : row_at fields (number_of p.name names) ≡ Some row = ap (λ n. row_at fields (number_of n names)) same ∙ ap (row_at fields) number ∙ at in
+    let here : row_at fields (number_of p.name names) ≡ Some row = ap (λ n. row_at fields (number_of n names)) bytes_same ∙ ap (row_at fields) number ∙ at in
     let good : is_bad_field size p.value (Some row) ≡ false = sym (ap (is_bad_field size p.value) here) ∙ h.good in
-    let both = or_false (not (eqb row.size size)) (not (is_of p.value row.kind)) good in
-    value_holds d p.value row.kind (not_false (is_of p.value row.kind) both.1) h.defined h.ranged
+    let both = or_parts (not (eqb row.size size)) (not (is_of p.value row.kind)) good in
+    value_holds d p.value row.kind (not-false (is_of p.value row.kind) both.1) h.defined h.ranged
 
 given_holds : (d : Names) (fields : List FieldRow) (size j : ℕ) (row : FieldRow) (parts : List Part) → number_of row.name (map (λ (r : FieldRow). r.name) fields) ≡ Some j → slice_get fields j ≡ Some row → Each (IsPart d fields size) parts → Holds d row.kind (initial_or d row.kind (given_for row.name parts))
 given_holds d fields size j row [] number at h = default_holds d row.kind
 given_holds d fields size j row (p ∷ ps) number at h = by_name (bytes_eq p.name row.name) refl (given_holds d fields size j row ps number at h.1) where
   by_name : (b : Bool) → bytes_eq p.name row.name ≡ b → Holds d row.kind (initial_or d row.kind (given_for row.name ps)) → Holds d row.kind (initial_or d row.kind (cond b (Some p.value) (given_for row.name ps)))
-  by_name true e others = part_holds d fields size j row p number at (same p.name row.name e) h.0
+  by_name true e others = part_holds d fields size j row p number at (bytes_same p.name row.name e) h.0
   by_name false e others = others
 
 fields_hold : (d : Names) (fields : List FieldRow) (size : ℕ) (parts : List Part) (js : List ℕ) → ((n : List ℕ) → count n (map (λ (r : FieldRow). r.name) fields) ≤ 1) → Each (IsPart d fields size) parts
@@ -69,7 +73,7 @@ fields_hold d fields size parts [] once h i = tt
 fields_hold d fields size parts (j ∷ js) once h i =
     let row = i.0.0 in
     let at : slice_get fields j ≡ Some row = i.0.1 in
-    let number : number_of row.name (map (λ (r : FieldRow). r.name) fields) ≡ Some j = number_is row.name (map (λ (r : FieldRow). r.name) fields) j (get-map (λ (r : FieldRow). r.name) fields j row at) (once row.name) in
+    let number : number_of row.name (map (λ (r : FieldRow). r.name) fields) ≡ Some j = number_is row.name (map (λ (r : FieldRow). r.name) fields) j (get_map (λ (r : FieldRow). r.name) fields j row at) (once row.name) in
     let held : Holds d row.kind (field_initial d parts (slice_get fields j)) = rw at (given_holds d fields size j row parts number at h) in
     ((row, at, held), fields_hold d fields size parts js once h i.1)
 
@@ -90,9 +94,9 @@ parts_are d fields size (p ∷ ps) a b c = (record { good = a.0; defined = b.0; 
 
 items_hold : (d : Names) (r : ArrayRow) (vs : List Given) → Each (λ v. is_bad_item (Some r) v ≡ false) vs → Each (λ v. is_undefined d v ≡ false) vs → Each IsRanged vs → Each (Holds d r.kind) (map (λ v. initial_of d v) vs)
 items_hold d r [] a b c = tt
-items_hold d r (v ∷ vs) a b c = (value_holds d v r.kind (not_false (is_of v r.kind) a.0) b.0 c.0, items_hold d r vs a.1 b.1 c.1)
+items_hold d r (v ∷ vs) a b c = (value_holds d v r.kind (not-false (is_of v r.kind) a.0) b.0 c.0, items_hold d r vs a.1 b.1 c.1)
 
--- the same table with one more prebuilt object
+-- the bytes_same table with one more prebuilt object
 keeps_root : (d : Names) (t : Table) (row : PrebuiltRow) → IsReadable d t → has_name row.name (map (λ (r : PrebuiltRow). r.name) t.prebuilts) ≡ false → IsRoot d t.sizes t.fields t.arrays row
     → bytes_of (record t { prebuilts = t.prebuilts ++ row ∷ [] }) ≤ 32768 → IsReadable d (record t { prebuilts = t.prebuilts ++ row ∷ [] })
 keeps_root d t row h free root b =
@@ -108,7 +112,7 @@ keeps_root d t row h free root b =
       arrays = h.arrays;
       calls = h.calls;
       functions = h.functions;
-      prebuilts = each-last (IsRoot d t.sizes t.fields t.arrays) t.prebuilts row h.prebuilts root;
+      prebuilts = each_push (IsRoot d t.sizes t.fields t.arrays) t.prebuilts row h.prebuilts root;
       few_shapes = h.few_shapes;
       few_functions = h.few_functions;
       few_calls = h.few_calls;
@@ -121,10 +125,10 @@ keeps_object n s parts d t i ranged c h b =
     let names = map (λ (r : FieldRow). r.name) t.fields in
     let size_names = map (λ (r : SizeRow). r.name) t.sizes in
     let at = place s size_names in
-    let twice = or_false (has_name n (map (λ (r : PrebuiltRow). r.name) t.prebuilts)) (repeats [] (map (λ (p : Part). p.name) parts)) c.new in
-    let u = or_false (not (has_name s size_names) || list_any (λ (p : Part). not (has_name p.name names)) parts) (list_any (λ (p : Part). is_undefined d p.value) parts) c.known in
-    let k = or_false (not (has_name s size_names)) (list_any (λ (p : Part). not (has_name p.name names)) parts) u.0 in
-    let size = row_of (λ (r : SizeRow). r.name) t.sizes s (not_false (has_name s size_names) k.0) in
+    let twice = or_parts (has_name n (map (λ (r : PrebuiltRow). r.name) t.prebuilts)) (repeats [] (map (λ (p : Part). p.name) parts)) c.new in
+    let u = or_parts (not (has_name s size_names) || list_any (λ (p : Part). not (has_name p.name names)) parts) (list_any (λ (p : Part). is_undefined d p.value) parts) c.known in
+    let k = or_parts (not (has_name s size_names)) (list_any (λ (p : Part). not (has_name p.name names)) parts) u.0 in
+    let size = row_of (λ (r : SizeRow). r.name) t.sizes s (not-false (has_name s size_names) k.0) in
     let lists : size.row.fields ≡ fields_at at t.fields = listing_at 0 t.fields t.sizes at size.row h.listing size.at ∙ ap (λ m. fields_at m t.fields) (zero-add at) in
     let stand : Each (λ j. (x : FieldRow) × (slice_get t.fields j ≡ Some x) × (nat_eq x.size at ≡ true)) (fields_at at t.fields) = places_hold (λ (f : FieldRow). nat_eq f.size at) [] t.fields t.fields refl in
     let are : Each (IsPart d t.fields at) parts = parts_are d t.fields at parts (none_of (λ (p : Part). is_bad_field at p.value (row_at t.fields (number_of p.name names))) parts c.fits) (none_of (λ (p : Part). is_undefined d p.value) parts u.1) ranged in
@@ -140,8 +144,8 @@ unfolding put_at is_twice is_unknown is_bad_initial
 keeps_items n a items d t i ranged c h b =
     let names = map (λ (r : ArrayRow). r.name) t.arrays in
     let at = place a names in
-    let k = or_false (not (has_name a names)) (list_any (λ v. is_undefined d v) items) c.known in
-    let array = row_of (λ (r : ArrayRow). r.name) t.arrays a (not_false (has_name a names) k.0) in
+    let k = or_parts (not (has_name a names)) (list_any (λ v. is_undefined d v) items) c.known in
+    let array = row_of (λ (r : ArrayRow). r.name) t.arrays a (not-false (has_name a names) k.0) in
     let here : row_at t.arrays (number_of a names) ≡ Some array.row = ap (row_at t.arrays) array.number ∙ array.at in
     let bad : Each (λ v. is_bad_item (row_at t.arrays (number_of a names)) v ≡ false) items = none_of (λ v. is_bad_item (row_at t.arrays (number_of a names)) v) items c.fits in
     let good : Each (λ v. is_bad_item (Some array.row) v ≡ false) items = subst (λ (o : Option ArrayRow). Each (λ v. is_bad_item o v ≡ false) items) here bad in

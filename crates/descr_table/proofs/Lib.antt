@@ -14,6 +14,7 @@ pub mod Keeps
 pub mod KeepsRoots
 pub mod Ranges
 pub mod LinesKept
+pub mod InitialWords
 pub mod RowForms
 pub mod ShapesBack
 pub mod FieldsBack

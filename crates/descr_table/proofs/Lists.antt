@@ -2,16 +2,15 @@
 use Rattle.std.proofs.Common.{◌≡◌, ℕ, Bool, true, false, cond, List, [], ◌∷◌, ◌++◌, Option, Some, None, refl, sym, ap, ◌∙◌}
 use Rattle.std.specs.Prelude.{codes}
 use Rattle.std.specs.Str.{bytes_eq}
-use Rattle.text_lines.specs.Reading.{◌>>=◌, is_end, ended}
+use Rattle.lists.specs.Binds.{◌>>=◌}
+use Rattle.std.proofs.lemmas.Option.{same_Some}
+use Rattle.text_lines.specs.Reading.{is_end, ended}
 use Rattle.descr_table.specs.declared.form.Given.{Given}
 use Rattle.descr_table.specs.declared.form.Part.{Part}
 use Rattle.descr_table.specs.Words.{given_of, part_of, part_at, parts_at, item_at, items_at}
 
 abbrev Words : Type 0
 Words = List (List ℕ)
-
-some_is : {A : Type 0} (x y : A) → Some x ≡ Some y → x ≡ y
-some_is x y e = cc
 
 pub end_is : (ws : Words) → is_end ws ≡ true → ws ≡ []
 end_is [] e = refl
@@ -31,7 +30,7 @@ Continues s ws p rest o = (o >>= λ x. with_rest x ws) ≡ with_rest p rest → 
 continues : (s : List Part) (ws : Words) (p : Part) (rest : Words) (o : Option Part) → Continues s ws p rest o
 continues s ws p rest None h = absurd cc
 continues s ws p rest (Some x) h =
-    let both : pair x ws ≡ pair p rest = some_is (pair x ws) (pair p rest) h in
+    let both : pair x ws ≡ pair p rest = same_Some (pair x ws) (pair p rest) h in
     let same : x ≡ p = ap (λ (q : Part × Words). q.0) both in
     let others : ws ≡ rest = ap (λ (q : Part × Words). q.1) both in
     cc (ap (λ (y : Part). parts_at (s ++ y ∷ []) ws) same, ap (parts_at (s ++ p ∷ [])) others)
@@ -87,13 +86,13 @@ item_goes : (comma bracket last : Bool) (s : List Given) (ws rest : Words) (v : 
     → (o >>= λ x. cond comma (marked x false ws) (cond bracket (marked x true ws) None)) ≡ marked v last rest → (o >>= λ x. all_items comma bracket s ws x) ≡ behind s v last rest
 item_goes comma bracket last s ws rest v None h = absurd cc
 item_goes true bracket last s ws rest v (Some x) h =
-    let all : triple x false ws ≡ triple v last rest = some_is (triple x false ws) (triple v last rest) h in
+    let all : triple x false ws ≡ triple v last rest = same_Some (triple x false ws) (triple v last rest) h in
     let same : x ≡ v = ap (λ (q : Marked). q.0) all in
     let open_ : false ≡ last = ap (λ (q : Marked). q.1) all in
     let others : ws ≡ rest = ap (λ (q : Marked). q.2) all in
     cc (ap (λ (y : Given). items_at (s ++ y ∷ []) ws) same, ap (items_at (s ++ v ∷ [])) others, ap (λ b. behind s v b rest) open_)
 item_goes false true last s ws rest v (Some x) h =
-    let all : triple x true ws ≡ triple v last rest = some_is (triple x true ws) (triple v last rest) h in
+    let all : triple x true ws ≡ triple v last rest = same_Some (triple x true ws) (triple v last rest) h in
     let same : x ≡ v = ap (λ (q : Marked). q.0) all in
     let closed : true ≡ last = ap (λ (q : Marked). q.1) all in
     let others : ws ≡ rest = ap (λ (q : Marked). q.2) all in

@@ -6,6 +6,7 @@ use Rattle.std.proofs.lemmas.Bool.Decides.{nat_tests}
 use Rattle.std.proofs.lemmas.List.{append-nil, map-append, length-map}
 use Rattle.std.proofs.lemmas.List.Concat.{flat_map-append}
 use Rattle.std.proofs.lemmas.List.Sums.{sum_by-append}
+use Rattle.std.proofs.lemmas.Bool.{or_parts}
 use Rattle.text_lines.specs.Names.{has_name, with_name}
 use Rattle.text_lines.specs.Reading.{first_of}
 use Rattle.trace_ops.specs.declared.table.SizeRow.{SizeRow}
@@ -67,10 +68,6 @@ fits f k defined t bytes e le = fits_at f k t bytes (not_refused f k defined t b
 
 -- ---- names
 
-or_false : (a b : Bool) → (a || b) ≡ false → (a ≡ false) × (b ≡ false)
-or_false true b e = absurd cc
-or_false false b e = (refl, e)
-
 added : (name : List ℕ) (names : Names) → has_name name names ≡ false → with_name name names ≡ names ++ name ∷ []
 added name names e = rw e refl
 
@@ -85,7 +82,7 @@ vtable_added : (vtable : Option (List ℕ)) (rows : List SizeRow) (r : SizeRow) 
     → with_name_if vtable (flat_map vtable_of rows) ≡ flat_map vtable_of (rows ++ r ∷ [])
 vtable_added None rows r k is e h = sym (flat_map-append vtable_of rows (r ∷ []) ∙ ap (λ o. flat_map vtable_of rows ++ (option_to_list o ++ [])) is ∙ append-nil (flat_map vtable_of rows))
 vtable_added (Some v) rows r k is e h =
-    let free : has_name v (flat_map vtable_of rows) ≡ false = sym (ap (has_name v) e) ∙ (or_false (has_name v k.vtables) (has_name v k.functions) h).0 in
+    let free : has_name v (flat_map vtable_of rows) ≡ false = sym (ap (has_name v) e) ∙ (or_parts (has_name v k.vtables) (has_name v k.functions) h).0 in
     added v (flat_map vtable_of rows) free ∙ sym (flat_map-append vtable_of rows (r ∷ []) ∙ ap (λ o. flat_map vtable_of rows ++ (option_to_list o ++ [])) is)
 
 pub map-with_field : {X : Type 0} (g : SizeRow → X) → ((r : SizeRow) (n : ℕ) → g (record r { fields = r.fields ++ n ∷ [] }) ≡ g r) → (at n : ℕ) (rows : List SizeRow) → map g (with_field at n rows) ≡ map g rows
@@ -107,15 +104,15 @@ pub record IsFree (name : List ℕ) (k : Known) : Type 0 where
 
 free : (name : List ℕ) (k : Known) → is_named name k ≡ false → IsFree name k
 free name k e =
-    let h = or_false (has_name name k.sizes || has_name name k.fields) (has_name name k.arrays || has_name name k.calls) e in
-    let a = or_false (has_name name k.sizes) (has_name name k.fields) h.0 in
-    let b = or_false (has_name name k.arrays) (has_name name k.calls) h.1 in
+    let h = or_parts (has_name name k.sizes || has_name name k.fields) (has_name name k.arrays || has_name name k.calls) e in
+    let a = or_parts (has_name name k.sizes) (has_name name k.fields) h.0 in
+    let b = or_parts (has_name name k.arrays) (has_name name k.calls) h.1 in
     record { sizes = a.0; fields = a.1; arrays = b.0; calls = b.1 }
 
 pub noted_names : (f : Form) (defined : Names) (t : Table) → is_twice f (names_of t) ≡ false → noted f (names_of t) ≡ names_of (put f defined t)
 unfolding noted put_at is_twice
 noted_names (Size name vtable) defined t e =
-    let h = or_false (is_named name (names_of t)) (is_class_if vtable (names_of t)) e in
+    let h = or_parts (is_named name (names_of t)) (is_class_if vtable (names_of t)) e in
     let row : SizeRow = record { name = name; vtable = vtable; fields = [] } in
     let a : with_name name (map (λ r. r.name) t.sizes) ≡ map (λ r. r.name) (t.sizes ++ row ∷ []) = row_added (λ r. r.name) t.sizes row (free name (names_of t) h.0).sizes in
     let b : with_name_if vtable (flat_map vtable_of t.sizes) ≡ flat_map vtable_of (t.sizes ++ row ∷ []) = vtable_added vtable t.sizes row (names_of t) refl refl h.1 in
@@ -133,11 +130,11 @@ noted_names (Call name args gives reads writes) defined t e =
     let a = row_added (λ r. r.name) t.calls (record { name = name; args = args; result = gives; reads = map (λ n. place n k.fields) reads; writes = map (λ n. place n k.fields) writes }) (free name k e).calls in
     λ i. record (names_of t) { calls = a i }
 noted_names (Function name) defined t e =
-    let a = added name t.functions (or_false (has_name name (names_of t).vtables) (has_name name t.functions) e).1 in
+    let a = added name t.functions (or_parts (has_name name (names_of t).vtables) (has_name name t.functions) e).1 in
     λ i. record (names_of t) { functions = a i }
 noted_names (Object name size fields) defined t e =
     let k = names_of t in
-    let h = or_false (has_name name k.prebuilts) (repeats [] (map (λ p. p.name) fields)) e in
+    let h = or_parts (has_name name k.prebuilts) (repeats [] (map (λ p. p.name) fields)) e in
     ap (λ (x : Names). record (names_of t) { prebuilts = x }) (added name k.prebuilts h.0 ∙ sym (map-append (λ r. r.name) t.prebuilts _))
 noted_names (Items name array items) defined t e =
     let k = names_of t in

@@ -5,6 +5,8 @@ use Rattle.std.specs.List.{All}
 use Rattle.std.specs.Option.{option_map, IsSomeAnd}
 use Rattle.std.proofs.lemmas.Bool.{cases_lt}
 use Rattle.std.proofs.lemmas.List.Sums.{sum_by-cons}
+use Rattle.std.proofs.lemmas.Option.{slice_get_within}
+use Rattle.lists.proofs.Eaches.{each_weaker}
 use Rattle.trace_ops.specs.Kinds.{kind_of_initial, kind_of_field, HasParts, NamesShape}
 use Rattle.trace_ops.specs.InRange.{StandsOnce, fields_of_size, NamesInitial, NamesCall, IsPrebuilt, prebuilt_bytes, bytes_of_object}
 use Rattle.trace_ops.specs.declared.trace.Kind.{Kind}
@@ -21,8 +23,7 @@ use Rattle.trace_ops.specs.declared.table.Initial.TheVariants as initial
 use Rattle.trace_ops.specs.declared.table.Table.{Table}
 use Rattle.trace_ops.specs.InRange.{IsTableInRange}
 use Rattle.descr_table.specs.Meaning.{row_bytes, shape_bytes}
-use Rattle.descr_table.proofs.Counts.{within}
-use Rattle.descr_table.proofs.Readable.{Each, each-weaker, InOrder, Reads, Writes, IsCall, Holds, HoldFields, HasBody, IsRoot, IsSize, IsReadable}
+use Rattle.descr_table.proofs.Readable.{Each, InOrder, Reads, Writes, IsCall, Holds, HoldFields, HasBody, IsRoot, IsSize, IsReadable}
 use Rattle.descr_table.proofs.KeepsRoots.{listing_at}
 
 abbrev Names : Type 0
@@ -34,7 +35,7 @@ all_of P (x ∷ xs) h zero d lt = h.0
 all_of P (x ∷ xs) h (suc k) d lt = all_of P xs h.1 k d (omega arith)
 
 all_weaker : {X : Type 0} (P Q : X → Type 0) → ((x : X) → P x → Q x) → (xs : List X) → Each P xs → All Q xs
-all_weaker P Q f xs h = all_of Q xs (each-weaker P Q f xs h)
+all_weaker P Q f xs h = all_of Q xs (each_weaker P Q f xs h)
 
 -- ---- sizes and arrays
 
@@ -104,8 +105,8 @@ array_once s a (shape.Array j ∷ ss) n m k h le lt = elim (cases_lt a k) [
 
 call_names : (t : Table) (row : CallRow) → IsCall t.fields row → NamesCall t row
 call_names t row h = (
-  all_weaker (Reads t.fields) (λ f. f < length t.fields) (λ f r. within t.fields f r.0 r.1) row.reads h.reads,
-  all_weaker (Writes t.fields) (λ f. f < length t.fields) (λ f r. within t.fields f r.0 r.1) row.writes h.writes,
+  all_weaker (Reads t.fields) (λ f. f < length t.fields) (λ f r. slice_get_within t.fields f r.0 r.1) row.reads h.reads,
+  all_weaker (Writes t.fields) (λ f. f < length t.fields) (λ f r. slice_get_within t.fields f r.0 r.1) row.writes h.writes,
 )
 
 kind_held : (d : Names) (k : Kind) (p : Initial) → Holds d k p → kind_of_initial p ≡ Some k
@@ -122,7 +123,7 @@ initial_named d t kind.Int initial.Null e h = absurd h
 initial_named d t kind.Int (initial.Ptr j) e h = absurd h
 initial_named d t kind.Ref (initial.Int z) e h = absurd h
 initial_named d t kind.Ref initial.Null e h = tt
-initial_named d t kind.Ref (initial.Ptr j) e h = omega (arith, within d j h.0 h.1)
+initial_named d t kind.Ref (initial.Ptr j) e h = omega (arith, slice_get_within d j h.0 h.1)
 
 kinds_held : (d : Names) (t : Table) (fs : List ℕ) (ps : List Initial) → HoldFields d t.fields fs ps → map kind_of_initial ps ≡ map (kind_of_field t) fs
 kinds_held d t [] [] h = refl

@@ -1,11 +1,12 @@
 -- What holds of a table that is being read.
-use Rattle.std.proofs.Common.{◌≡◌, ℕ, zero, suc, ◌+◌, ◌<◌, ◌≤◌, ◌^◌, Bool, true, false, cond, List, [], ◌∷◌, ◌++◌, length, map, Some, refl, sym, ap, subst, ◌∙◌, arith, add-zero, append_assoc, length-append}
+use Rattle.std.proofs.Common.{◌≡◌, ℕ, zero, suc, ◌+◌, ◌<◌, ◌≤◌, ◌^◌, Bool, true, false, cond, List, [], ◌∷◌, ◌++◌, length, map, Some, refl, sym, ap, subst, ◌∙◌, arith, add-zero, append_assoc}
 use Rattle.std.specs.Prelude.{slice_get, nat_eq, codes, option_to_list}
 use Rattle.std.specs.Str.{bytes_eq}
 use Rattle.std.specs.List.{AllByRecursion, flat_map}
 use Rattle.std.proofs.lemmas.Bool.{eq-eqb, ne_eqb}
 use Rattle.std.proofs.lemmas.List.{append-nil}
 use lib.Signed.{mag}
+use Rattle.lists.proofs.Appends.{get_middle, length_push}
 use Rattle.text_lines.specs.Words.{is_name}
 use Rattle.trace_ops.specs.InRange.{places_from}
 use Rattle.trace_ops.specs.declared.trace.Kind.{Kind}
@@ -22,27 +23,13 @@ use Rattle.trace_ops.specs.declared.table.Initial.TheVariants as initial
 use Rattle.trace_ops.specs.declared.table.Table.{Table}
 use Rattle.descr_table.specs.Meaning.{with_field, bytes_of}
 use Rattle.descr_table.specs.Spelling.{IsNameOrNone}
-use Rattle.descr_table.proofs.Counts.{count, get-middle}
+use Rattle.descr_table.proofs.Counts.{count}
 
 abbrev Names : Type 0
 Names = List (List ℕ)
 
 abbrev pub Each : {X : Type 0} → (X → Type 0) → List X → Type 0
 Each P xs = AllByRecursion P xs
-
-pub each-append : {X : Type 0} (P : X → Type 0) (xs ys : List X) → Each P xs → Each P ys → Each P (xs ++ ys)
-each-append P [] ys h i = i
-each-append P (x ∷ xs) ys h i = (h.0, each-append P xs ys h.1 i)
-
-pub each-last : {X : Type 0} (P : X → Type 0) (xs : List X) (x : X) → Each P xs → P x → Each P (xs ++ x ∷ [])
-each-last P xs x h i = each-append P xs (x ∷ []) h (i, tt)
-
-pub each-weaker : {X : Type 0} (P Q : X → Type 0) → ((x : X) → P x → Q x) → (xs : List X) → Each P xs → Each Q xs
-each-weaker P Q f [] h = tt
-each-weaker P Q f (x ∷ xs) h = (f x h.0, each-weaker P Q f xs h.1)
-
-pub length-last : {X : Type 0} (xs : List X) (x : X) → length (xs ++ x ∷ []) ≡ suc (length xs)
-length-last xs x = omega (arith, length-append xs (x ∷ []))
 
 -- ---- sizes and arrays in their order
 
@@ -130,9 +117,9 @@ pub places_hold : {X : Type 0} (test : X → Bool) (front xs all : List X) → a
 unfolding places_from
 places_hold test front [] all e = tt
 places_hold {X} test front (x ∷ xs) all e =
-    let here : slice_get all (length front) ≡ Some x = ap (λ (l : List X). slice_get l (length front)) e ∙ get-middle front x xs in
+    let here : slice_get all (length front) ≡ Some x = ap (λ (l : List X). slice_get l (length front)) e ∙ get_middle front x xs in
     let rest : Each (λ i. (y : X) × (slice_get all i ≡ Some y) × (test y ≡ true)) (places_from test (length (front ++ x ∷ [])) xs) = places_hold test (front ++ x ∷ []) xs all (e ∙ sym (append_assoc front (x ∷ []) xs)) in
-    let at : length (front ++ x ∷ []) ≡ length front + 1 = length-last front x ∙ omega arith in
+    let at : length (front ++ x ∷ []) ≡ length front + 1 = length_push front x ∙ omega arith in
     by_here test all (test x) x (length front) (places_from test (length front + 1) xs) refl here (subst (λ (n : ℕ). Each (λ i. (y : X) × (slice_get all i ≡ Some y) × (test y ≡ true)) (places_from test n xs)) at rest)
 
 -- ---- rows

@@ -12,13 +12,17 @@ use Rattle.trace_ops.specs.declared.table.FieldRow.{FieldRow}
 use Rattle.trace_ops.specs.declared.table.ArrayRow.{ArrayRow}
 use Rattle.trace_ops.specs.declared.table.PrebuiltRow.{PrebuiltRow}
 use Rattle.trace_ops.specs.declared.table.Table.{Table}
-use Rattle.descr_table.proofs.Readable.{Each, length-last, fields_at, IsReadable}
+use Rattle.descr_table.proofs.Readable.{Each, fields_at, IsReadable}
 use Rattle.std.specs.List.{list_any}
 use Rattle.std.proofs.lemmas.List.{length-map}
 use Rattle.text_lines.specs.Names.{number_of}
 use Rattle.std.proofs.Common.{◌*◌}
 use Rattle.std.specs.Prelude.{sum}
 use Rattle.std.proofs.lemmas.List.Sums.{sum_by-append, sum_by-cons}
+use Rattle.lists.proofs.Bools.{or_false, bytes_itself}
+use Rattle.std.proofs.lemmas.Option.{slice_get_within}
+use Rattle.lists.proofs.Appends.{get_middle, length_push}
+use Rattle.lists.proofs.Places.{get_map, get_some}
 use Rattle.trace_ops.specs.declared.trace.Kind.{Kind}
 use Rattle.trace_ops.specs.declared.trace.Kind.TheVariants as kind
 use Rattle.trace_ops.specs.declared.table.Initial.{Initial}
@@ -26,14 +30,13 @@ use Rattle.trace_ops.specs.declared.table.Initial.TheVariants as initial
 use Rattle.descr_table.specs.declared.form.Part.{Part}
 use Rattle.descr_table.specs.Known.{repeats}
 use Rattle.descr_table.specs.Meaning.{is_misplaced, is_twice, is_unknown, is_undefined, is_bad_initial, is_bad_field, is_bad_item, is_of, row_at, place, fields_in, row_bytes, shape_bytes, bytes_of, limit_at, given_for, initial_of, initial_or, field_initial, put_at, put}
-use Rattle.descr_table.specs.Writing.{size_name, size_name_in, field_name, field_name_in, array_name, array_name_in, prebuilt_name, prebuilt_name_in}
-use Rattle.descr_table.proofs.Counts.{count, one_if, free_count, free_before, itself, is_known, place_is, number_is, within, get-map, get-middle}
-use Rattle.descr_table.proofs.Clear.{IsClear, not_refused, false_or, false_not, none_of, of_none, none_bytes}
+use Rattle.descr_table.specs.Names.{size_name, size_name_in, field_name, field_name_in, array_name, array_name_in, prebuilt_name, prebuilt_name_in}
+use Rattle.descr_table.proofs.Counts.{count, one_if, free_count, free_before, is_known, place_is, number_is}
+use Rattle.descr_table.proofs.Clear.{IsClear, not_refused, false_not, none_of, of_none, none_bytes}
 use Rattle.descr_table.proofs.Readable.{places_hold, Holds, HoldFields, HasBody, IsRoot}
 use Rattle.descr_table.proofs.KeepsRoots.{listing_at}
 use Rattle.descr_table.proofs.RowForms.{value_form, part_form, parts_form, body_form, root_form, Goes}
 use Rattle.descr_table.proofs.ShapesBack.{stands_in}
-use Rattle.descr_table.proofs.FieldsBack.{get_some}
 use Rattle.descr_table.proofs.CallsBack.{rows_so_far, field_names, field_of}
 
 abbrev Names : Type 0
@@ -47,9 +50,9 @@ root_names t = map (λ (r : PrebuiltRow). r.name) t.prebuilts
 -- the name of a prebuilt object that a value names
 pub name_of : (t : Table) (k : ℕ) (n : List ℕ) → slice_get (root_names t) k ≡ Some n → prebuilt_name t k ≡ n
 name_of t k n e =
-    let lt : k < length t.prebuilts = omega (arith, within (root_names t) k n e, length-map t.prebuilts (λ (r : PrebuiltRow). r.name)) in
+    let lt : k < length t.prebuilts = omega (arith, slice_get_within (root_names t) k n e, length-map t.prebuilts (λ (r : PrebuiltRow). r.name)) in
     let r = get_some t.prebuilts k lt in
-    let here : slice_get (root_names t) k ≡ Some r.0.name = get-map (λ (x : PrebuiltRow). x.name) t.prebuilts k r.0 r.1 in
+    let here : slice_get (root_names t) k ≡ Some r.0.name = get_map (λ (x : PrebuiltRow). x.name) t.prebuilts k r.0 r.1 in
     let same : n ≡ r.0.name = cc (e, here) in
     ap prebuilt_name_in r.1 ∙ sym same
 
@@ -116,7 +119,7 @@ part_good : (t : Table) (size f : ℕ) (row : FieldRow) (p : Initial) → IsRead
 part_good t size f row p i at own h =
     let field = field_of (root_names t) t f row at i in
     let here : row_at t.fields (number_of (field_name t f) (field_names t)) ≡ Some row = ap (row_at t.fields) field.number ∙ at in
-    ap (is_bad_field size (value_form t p)) here ∙ false_or (not (nat_eq row.size size)) (not (is_of (value_form t p) row.kind)) (false_not (nat_eq row.size size) own) (false_not (is_of (value_form t p) row.kind) (value_of_kind t (root_names t) row.kind p h))
+    ap (is_bad_field size (value_form t p)) here ∙ or_false (not (nat_eq row.size size)) (not (is_of (value_form t p) row.kind)) (false_not (nat_eq row.size size) own) (false_not (is_of (value_form t p) row.kind) (value_of_kind t (root_names t) row.kind p h))
 
 same_row : (t : Table) (f : ℕ) (x y : FieldRow) → slice_get t.fields f ≡ Some x → slice_get t.fields f ≡ Some y → x ≡ y
 same_row t f x y a b = cc
@@ -145,9 +148,9 @@ count_places : (t : Table) (test : FieldRow → Bool) (n : List ℕ) (front xs :
 unfolding places_from
 count_places t test n front [] e = omega arith
 count_places t test n front (x ∷ xs) e =
-    let here : field_name t (length front) ≡ x.name = ap (λ (l : List FieldRow). field_name_in (slice_get l (length front))) e ∙ ap field_name_in (get-middle front x xs) in
+    let here : field_name t (length front) ≡ x.name = ap (λ (l : List FieldRow). field_name_in (slice_get l (length front))) e ∙ ap field_name_in (get_middle front x xs) in
     let rest : count n (map (λ f. field_name t f) (places_from test (length (front ++ x ∷ [])) xs)) ≤ count n (map (λ (r : FieldRow). r.name) xs) = count_places t test n (front ++ x ∷ []) xs (e ∙ sym (append_assoc front (x ∷ []) xs)) in
-    let at : length (front ++ x ∷ []) ≡ length front + 1 = length-last front x ∙ omega arith in
+    let at : length (front ++ x ∷ []) ≡ length front + 1 = length_push front x ∙ omega arith in
     let le : count n (map (λ f. field_name t f) (places_from test (length front + 1) xs)) ≤ count n (map (λ (r : FieldRow). r.name) xs) = subst (λ (k : ℕ). count n (map (λ f. field_name t f) (places_from test k xs)) ≤ count n (map (λ (r : FieldRow). r.name) xs)) at rest in
     count_if (test x) n x.name (length front) (places_from test (length front + 1) xs) (λ f. field_name t f) (count n (map (λ (r : FieldRow). r.name) xs)) here le
 
@@ -155,7 +158,7 @@ repeats_free : (seen ns : Names) → ((n : List ℕ) → count n (seen ++ ns) �
 unfolding repeats
 repeats_free seen [] h = refl
 repeats_free seen (n ∷ ns) h =
-    false_or (has_name n seen) (repeats (seen ++ n ∷ []) ns) (free_before n seen ns (h n)) (repeats_free (seen ++ n ∷ []) ns (λ m. omega (arith, ap (count m) (append_assoc seen (n ∷ []) ns), h m)))
+    or_false (has_name n seen) (repeats (seen ++ n ∷ []) ns) (free_before n seen ns (h n)) (repeats_free (seen ++ n ∷ []) ns (λ m. omega (arith, ap (count m) (append_assoc seen (n ∷ []) ns), h m)))
 
 -- each field has the value that is written for it
 abbrev HasGiven : Table → List Part → List ℕ → List Initial → Type 0
@@ -172,10 +175,10 @@ all_given : (t : Table) (fs : List ℕ) (ps : List Initial) → HoldFields (root
 all_given t [] ps h once = tt
 all_given t (f ∷ fs) [] h once = absurd h
 all_given t (f ∷ fs) (p ∷ ps) h once =
-    let own : one_if (bytes_eq (field_name t f) (field_name t f)) ≡ 1 = rw (itself (field_name t f)) refl in
+    let own : one_if (bytes_eq (field_name t f) (field_name t f)) ≡ 1 = rw (bytes_itself (field_name t f)) refl in
     let none : has_name (field_name t f) (map (λ g. field_name t g) fs) ≡ false = free_count (field_name t f) (map (λ g. field_name t g) fs) (omega (arith, own, once (field_name t f))) in
     let others : HasGiven t (parts_form t fs ps) fs ps = all_given t fs ps h.1 (λ n. omega (arith, once n)) in
-    (rw (itself (field_name t f)) refl, given_later t (part_form t f p) (parts_form t fs ps) fs ps (none_of (λ n. bytes_eq (field_name t f) n) (map (λ g. field_name t g) fs) none) others)
+    (rw (bytes_itself (field_name t f)) refl, given_later t (part_form t f p) (parts_form t fs ps) fs ps (none_of (λ n. bytes_eq (field_name t f) n) (map (λ g. field_name t g) fs) none) others)
 
 parts_back : (t : Table) (parts : List Part) (fs : List ℕ) (ps : List Initial) → IsReadable (root_names t) t → HoldFields (root_names t) t.fields fs ps → HasGiven t parts fs ps
     → map (λ j. field_initial (root_names t) parts (slice_get t.fields j)) fs ≡ ps
@@ -217,7 +220,7 @@ pub named_size : (d : Names) (t : Table) (k : ℕ) (row : SizeRow) → slice_get
 named_size d t k row at h =
     let names = map (λ (r : SizeRow). r.name) t.sizes in
     let named : size_name t k ≡ row.name = ap size_name_in at in
-    let here : slice_get names k ≡ Some (size_name t k) = get-map (λ (r : SizeRow). r.name) t.sizes k row at ∙ ap Some (sym named) in
+    let here : slice_get names k ≡ Some (size_name t k) = get_map (λ (r : SizeRow). r.name) t.sizes k row at ∙ ap Some (sym named) in
     record { named = named; known = is_known (size_name t k) names k here; at_place = place_is (size_name t k) names k here (omega (arith, h.named (size_name t k))) }
 
 pub record NamedArray (t : Table) (k : ℕ) (row : ArrayRow) : Type 0 where
@@ -230,7 +233,7 @@ pub named_array : (d : Names) (t : Table) (k : ℕ) (row : ArrayRow) → slice_g
 named_array d t k row at h =
     let names = map (λ (r : ArrayRow). r.name) t.arrays in
     let named : array_name t k ≡ row.name = ap array_name_in at in
-    let here : slice_get names k ≡ Some (array_name t k) = get-map (λ (r : ArrayRow). r.name) t.arrays k row at ∙ ap Some (sym named) in
+    let here : slice_get names k ≡ Some (array_name t k) = get_map (λ (r : ArrayRow). r.name) t.arrays k row at ∙ ap Some (sym named) in
     let once : count (array_name t k) names ≤ 1 = omega (arith, h.named (array_name t k)) in
     record { named = named; known = is_known (array_name t k) names k here; number = number_is (array_name t k) names k here once; at_place = place_is (array_name t k) names k here once }
 
@@ -238,7 +241,7 @@ abbrev Step : Table → List PrebuiltRow → List ℕ → ShapeOf → List Initi
 Step t done n of ps = IsClear (body_form t n of ps) (root_names t) (rows_so_far t t.calls t.functions done)
     × (put (body_form t n of ps) (root_names t) (rows_so_far t t.calls t.functions done) ≡ rows_so_far t t.calls t.functions (done ++ record { name = n; of = of; parts = ps } ∷ []))
 
--- the name is new, and the bytes keep within their limit
+-- the name is new, and the bytes keep slice_get_within their limit
 pub record IsNext (t : Table) (done : List PrebuiltRow) (n : List ℕ) (of : ShapeOf) (ps : List Initial) : Type 0 where
   pub new : has_name n (map (λ (r : PrebuiltRow). r.name) done) ≡ false
   pub bytes : sum (map row_bytes done) + shape_bytes of (length ps) ≤ 32768
@@ -265,9 +268,9 @@ object_step t done n k ps i next body =
     let back : map (λ j. field_initial d parts (slice_get t.fields j)) (fields_in (slice_get t.sizes (place (size_name t k) sizes))) ≡ ps = ap (map (λ j. field_initial d parts (slice_get t.fields j))) own ∙ parts_back t parts (fields_in (slice_get t.sizes k)) ps i held (all_given t (fields_in (slice_get t.sizes k)) ps held once) in (
       record {
         placed = refl;
-        new = false_or (has_name n (map (λ (r : PrebuiltRow). r.name) done)) (repeats [] (map (λ (p : Part). p.name) parts)) next.new norep;
-        known = false_or (not (has_name (size_name t k) sizes) || list_any (λ (p : Part). not (has_name p.name (field_names t))) parts) (list_any (λ (p : Part). is_undefined d p.value) parts)
-            (false_or (not (has_name (size_name t k) sizes)) (list_any (λ (p : Part). not (has_name p.name (field_names t))) parts) (false_not (has_name (size_name t k) sizes) size.known) (of_none (λ (p : Part). not (has_name p.name (field_names t))) parts (parts_known t (fields_in (slice_get t.sizes k)) ps i held)))
+        new = or_false (has_name n (map (λ (r : PrebuiltRow). r.name) done)) (repeats [] (map (λ (p : Part). p.name) parts)) next.new norep;
+        known = or_false (not (has_name (size_name t k) sizes) || list_any (λ (p : Part). not (has_name p.name (field_names t))) parts) (list_any (λ (p : Part). is_undefined d p.value) parts)
+            (or_false (not (has_name (size_name t k) sizes)) (list_any (λ (p : Part). not (has_name p.name (field_names t))) parts) (false_not (has_name (size_name t k) sizes) size.known) (of_none (λ (p : Part). not (has_name p.name (field_names t))) parts (parts_known t (fields_in (slice_get t.sizes k)) ps i held)))
             (of_none (λ (p : Part). is_undefined d p.value) parts (parts_defined t (fields_in (slice_get t.sizes k)) ps held));
         fits = of_none (λ (p : Part). is_bad_field (place (size_name t k) sizes) p.value (row_at t.fields (number_of p.name (field_names t)))) parts good;
         few = none_bytes (sum (map row_bytes done) + (8 + 8 * length (fields_in (slice_get t.sizes (place (size_name t k) sizes))))) (omega (arith, next.bytes, len, ap length own));
@@ -289,7 +292,7 @@ array_step t done n k ps i next body =
       record {
         placed = refl;
         new = next.new;
-        known = false_or (not (has_name (array_name t k) names)) (list_any (λ v. is_undefined d v) items) (false_not (has_name (array_name t k) names) array.known) (of_none (λ v. is_undefined d v) items (items_defined t row.kind ps body.2));
+        known = or_false (not (has_name (array_name t k) names)) (list_any (λ v. is_undefined d v) items) (false_not (has_name (array_name t k) names) array.known) (of_none (λ v. is_undefined d v) items (items_defined t row.kind ps body.2));
         fits = of_none (λ v. is_bad_item (row_at t.arrays (number_of (array_name t k) names)) v) items good;
         few = none_bytes (sum (map row_bytes done) + (16 + 8 * length items)) (omega (arith, next.bytes, length-map ps (λ p. value_form t p)));
       },

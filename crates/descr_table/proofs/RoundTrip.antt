@@ -3,10 +3,11 @@ use Rattle.std.proofs.Common.{◌≡◌, ℕ, ◌<◌, true, false, List, [], �
 use Rattle.std.specs.Prelude.{slice_get}
 use Rattle.std.specs.List.{flat_map}
 use Rattle.std.proofs.lemmas.List.{append-nil, map-append}
+use Rattle.text_lines.specs.Laws.{LinesAreSpelled}
 use Rattle.text_lines.specs.Lines.{lines}
 use Rattle.text_lines.specs.Words.{is_name}
 use Rattle.text_lines.specs.Names.{has_name, with_name}
-use Rattle.text_lines.specs.Reading.{read_lines}
+use Rattle.lists.specs.Refused.{read_lines}
 use Rattle.trace_ops.specs.declared.table.ShapeOf.{ShapeOf}
 use Rattle.trace_ops.specs.declared.table.ShapeOf.TheVariants as shape
 use Rattle.trace_ops.specs.declared.table.SizeRow.{SizeRow}
@@ -59,19 +60,19 @@ named_and_owned : (n : ℕ) (fs : List FieldRow) → Each (λ (r : FieldRow). (i
 named_and_owned n [] h i = tt
 named_and_owned n (f ∷ fs) h i = ((h.0, i.0), named_and_owned n fs h.1 i.1)
 
-text_block : (t : Table) → IsReadable (root_names t) t → Block (table_text t) (forms_of t)
-text_block t h =
+text_block : (spelled : LinesAreSpelled) (t : Table) → IsReadable (root_names t) t → Block (table_text t) (forms_of t)
+text_block spelled t h =
     let d = root_names t in
     let shapes = flat_map (λ s. shape_line t s) t.shapes in
     let fields = flat_map (λ r. field_line t r) t.fields in
     let calls = flat_map (λ r. call_line t r) t.calls in
     let functions = flat_map (λ n. function_line n) t.functions in
     let roots = flat_map (λ r. prebuilt_line t r) t.prebuilts in
-    let a : Block shapes (shapes_of t) = shape_blocks d t t.shapes h in
-    let b : Block fields (fields_of t) = block_map (λ (r : FieldRow). (is_name r.name ≡ true) × (r.size < length t.sizes)) (λ r. field_line t r) (λ r. field_form t r) (field_block d t h) t.fields (named_and_owned (length t.sizes) t.fields h.fields h.owned) in
-    let c : Block calls (calls_of t) = block_map (IsCall t.fields) (λ r. call_line t r) (λ r. call_form t r) (call_block d t h) t.calls h.calls in
-    let e : Block functions (functions_of t) = block_map (λ (n : List ℕ). is_name n ≡ true) (λ n. function_line n) (λ n. Function n) function_block t.functions h.functions in
-    let f : Block roots (roots_of t) = block_map (IsRoot d t.sizes t.fields t.arrays) (λ r. prebuilt_line t r) (λ r. root_form t r) (root_block t h) t.prebuilts h.prebuilts in
+    let a : Block shapes (shapes_of t) = shape_blocks spelled d t t.shapes h in
+    let b : Block fields (fields_of t) = block_map (λ (r : FieldRow). (is_name r.name ≡ true) × (r.size < length t.sizes)) (λ r. field_line t r) (λ r. field_form t r) (field_block spelled d t h) t.fields (named_and_owned (length t.sizes) t.fields h.fields h.owned) in
+    let c : Block calls (calls_of t) = block_map (IsCall t.fields) (λ r. call_line t r) (λ r. call_form t r) (call_block spelled d t h) t.calls h.calls in
+    let e : Block functions (functions_of t) = block_map (λ (n : List ℕ). is_name n ≡ true) (λ n. function_line n) (λ n. Function n) (function_block spelled) t.functions h.functions in
+    let f : Block roots (roots_of t) = block_map (IsRoot d t.sizes t.fields t.arrays) (λ r. prebuilt_line t r) (λ r. root_form t r) (root_block spelled t h) t.prebuilts h.prebuilts in
     let ab : Block (shapes ++ fields) (shapes_of t ++ fields_of t) = block_both shapes fields (shapes_of t) (fields_of t) a b in
     let abc : Block ((shapes ++ fields) ++ calls) ((shapes_of t ++ fields_of t) ++ calls_of t) = block_both (shapes ++ fields) calls (shapes_of t ++ fields_of t) (calls_of t) ab c in
     let abce : Block (((shapes ++ fields) ++ calls) ++ functions) (((shapes_of t ++ fields_of t) ++ calls_of t) ++ functions_of t) = block_both ((shapes ++ fields) ++ calls) functions ((shapes_of t ++ fields_of t) ++ calls_of t) (functions_of t) abc e in
@@ -152,14 +153,14 @@ text_lines_of : (text : List ℕ) (fs : List Form) (b : Block text fs) → lines
 unfolding lines
 text_lines_of text fs b = ap lines (sym (append-nil text)) ∙ b.lines_are [] ∙ append-nil b.lines_of
 
-readable_back : (again : ℕ) (t : Table) → IsReadable (root_names t) t → table_at again (table_text t) ≡ Ok t
+readable_back : (spelled : LinesAreSpelled) (again : ℕ) (t : Table) → IsReadable (root_names t) t → table_at again (table_text t) ≡ Ok t
 unfolding table_at
-readable_back again t h =
-    let b = text_block t h in
+readable_back spelled again t h =
+    let b = text_block spelled t h in
     let ls : lines (table_text t) ≡ b.lines_of = text_lines_of (table_text t) (forms_of t) b in
     let names : defined_in (table_text t) ≡ root_names t = ap (defined_behind []) ls ∙ defined_said b.lines_of (forms_of t) [] b.said_are ∙ all_define t h in
     let read : read_lines (read_line (root_names t)) again b.lines_of nothing ≡ Ok t = read_goes (root_names t) b.lines_of again (forms_of t) nothing t b.said_are (all_go t h) in
     ap (λ (d : Names). read_lines (read_line d) again (lines (table_text t)) nothing) names ∙ ap (λ (l : Names). read_lines (read_line (root_names t)) again l nothing) ls ∙ read
 
-pub table_back : (first again : ℕ) (text : List ℕ) (t : Table) → table_at first text ≡ Ok t → table_at again (table_text t) ≡ Ok t
-table_back first again text t e = readable_back again t (readable first text t e)
+pub table_back : (spelled : LinesAreSpelled) (first again : ℕ) (text : List ℕ) (t : Table) → table_at first text ≡ Ok t → table_at again (table_text t) ≡ Ok t
+table_back spelled first again text t e = readable_back spelled again t (readable spelled first text t e)

@@ -1,7 +1,8 @@
 -- The forms of the lines that write a table.
 use Rattle.std.proofs.Common.{◌≡◌, ℕ, suc, List, [], ◌∷◌, ◌++◌, map, Option, Some, None, Result, Ok, refl, sym, ap, subst, ◌∙◌}
 use Rattle.std.specs.Prelude.{slice_get}
-use Rattle.text_lines.specs.Reading.{said, read_lines, ok_then}
+use Rattle.lists.specs.Refused.{read_lines, ok_then}
+use Rattle.text_lines.specs.Reading.{said}
 use Rattle.trace_ops.specs.declared.table.ShapeOf.{ShapeOf}
 use Rattle.trace_ops.specs.declared.table.ShapeOf.TheVariants as shape
 use Rattle.trace_ops.specs.declared.table.SizeRow.{SizeRow}
@@ -21,8 +22,8 @@ use Rattle.descr_table.specs.declared.fault.TableFault.{TableFault}
 use Rattle.descr_table.specs.Form.{form_at}
 use Rattle.descr_table.specs.Meaning.{refusal, put}
 use Rattle.descr_table.specs.Reading.{prebuilt_name, with_defined, defined_name, defined_behind, read_said, read_line}
-use Rattle.descr_table.specs.Writing.{size_name, field_name, array_name, fields_in}
-use Rattle.descr_table.specs.Writing.{prebuilt_name as root_name}
+use Rattle.descr_table.specs.Names.{size_name, field_name, array_name, fields_in}
+use Rattle.descr_table.specs.Names.{prebuilt_name as root_name}
 
 abbrev Names : Type 0
 Names = List (List ℕ)

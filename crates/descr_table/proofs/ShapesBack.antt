@@ -5,6 +5,8 @@ use Rattle.std.specs.Str.{bytes_eq}
 use Rattle.std.specs.List.{flat_map}
 use Rattle.std.proofs.lemmas.List.{map-append, append-nil, nil_from_length}
 use Rattle.std.proofs.lemmas.List.Concat.{flat_map-append}
+use Rattle.lists.proofs.Bools.{or_false, bytes_itself}
+use Rattle.lists.proofs.Appends.{get_middle, length_push}
 use Rattle.text_lines.specs.Names.{has_name}
 use Rattle.trace_ops.specs.declared.table.ShapeOf.{ShapeOf}
 use Rattle.trace_ops.specs.declared.table.ShapeOf.TheVariants as shape
@@ -14,9 +16,9 @@ use Rattle.trace_ops.specs.declared.table.Table.{Table}
 use Rattle.trace_ops.specs.declared.table.What.TheVariants as what
 use Rattle.descr_table.specs.Known.{names_of, is_named, is_class_if}
 use Rattle.descr_table.specs.Meaning.{nothing, is_misplaced, is_twice, is_unknown, is_bad_initial, limit_at, put_at, put}
-use Rattle.descr_table.proofs.Counts.{count, one_if, count-append, free_count, itself, get-middle}
-use Rattle.descr_table.proofs.Clear.{IsClear, not_refused, false_or, none_full}
-use Rattle.descr_table.proofs.Readable.{length-last, InOrder, IsReadable}
+use Rattle.descr_table.proofs.Counts.{count, one_if, count-append, free_count}
+use Rattle.descr_table.proofs.Clear.{IsClear, not_refused, none_full}
+use Rattle.descr_table.proofs.Readable.{InOrder, IsReadable}
 use Rattle.descr_table.proofs.Ranges.{order_le}
 use Rattle.descr_table.proofs.RowForms.{shape_forms, size_forms, size_form, array_forms, array_form, Goes}
 
@@ -36,7 +38,7 @@ count_in g n xs ys = ap (count n) (map-append g xs ys) ∙ count-append n (map g
 
 pub stands_in : {X : Type 0} (g : X → List ℕ) (all done : List X) (r : X) (rest : List X) → all ≡ done ++ r ∷ rest → StandsIn g all done r
 stands_in g all done r rest e =
-    let is : one_if (bytes_eq (g r) (g r)) ≡ 1 = rw (itself (g r)) refl in
+    let is : one_if (bytes_eq (g r) (g r)) ≡ 1 = rw (bytes_itself (g r)) refl in
     let total : count (g r) (map g all) ≡ count (g r) (map g done) + count (g r) (map g (r ∷ rest)) = ap (λ xs. count (g r) (map g xs)) e ∙ count_in g (g r) done (r ∷ rest) in
     record { parts = omega (arith, total, is) }
 
@@ -67,11 +69,11 @@ class_free : (v : Option (List ℕ)) (d : Names) (t : Table) (ss : List ShapeOf)
     → is_class_if v (names_of (shapes_so_far ss done arrays)) ≡ false
 class_free None d t ss done rest arrays r is e h = refl
 class_free (Some v) d t ss done rest arrays r is e h =
-    let own : one_if (bytes_eq v v) ≡ 1 = rw (itself v) refl in
+    let own : one_if (bytes_eq v v) ≡ 1 = rw (bytes_itself v) refl in
     let all : flat_map vtable_of t.sizes ≡ flat_map vtable_of done ++ (v ∷ [] ++ flat_map vtable_of rest) = ap (flat_map vtable_of) e ∙ flat_map-append vtable_of done (r ∷ rest) ∙ ap (λ o. flat_map vtable_of done ++ (option_to_list o ++ flat_map vtable_of rest)) is in
     let none : count v (flat_map vtable_of done) ≡ 0 = omega (arith, h.classes v, ap (count v) all, count-append v (flat_map vtable_of done) (v ∷ [] ++ flat_map vtable_of rest), own) in
     let here : count v (flat_map vtable_of (map bare done)) ≡ 0 = ap (count v) (bare_vtables done) ∙ none in
-    false_or (has_name v (flat_map vtable_of (map bare done))) false (free_count v (flat_map vtable_of (map bare done)) here) refl
+    or_false (has_name v (flat_map vtable_of (map bare done))) false (free_count v (flat_map vtable_of (map bare done)) here) refl
 
 name_free : (n : List ℕ) (ss : List ShapeOf) (done : List SizeRow) (arrays : List ArrayRow) → count n (map (λ (r : SizeRow). r.name) done) ≡ 0 → count n (map (λ (r : ArrayRow). r.name) arrays) ≡ 0 → is_named n (names_of (shapes_so_far ss done arrays)) ≡ false
 name_free n ss done arrays e f =
@@ -89,7 +91,7 @@ size_clear d t ss done rest arrays more r e f lt h =
     let b : count r.name (map (λ (x : ArrayRow). x.name) arrays) ≡ 0 = omega (arith, in_sizes.parts, in_arrays, h.named r.name) in
     record {
       placed = refl;
-      new = false_or (is_named r.name (names_of (shapes_so_far ss done arrays))) (is_class_if r.vtable (names_of (shapes_so_far ss done arrays))) (name_free r.name ss done arrays a b) (class_free r.vtable d t ss done rest arrays r refl e h);
+      new = or_false (is_named r.name (names_of (shapes_so_far ss done arrays))) (is_class_if r.vtable (names_of (shapes_so_far ss done arrays))) (name_free r.name ss done arrays a b) (class_free r.vtable d t ss done rest arrays r refl e h);
       known = refl;
       fits = refl;
       few = none_full what.Shapes 1024 (length ss) lt;
@@ -124,7 +126,7 @@ all_done all done rest e l =
     sym (e ∙ ap (λ xs. done ++ xs) none ∙ append-nil done)
 
 middle_at : {X : Type 0} (all done : List X) (r : X) (rest : List X) (k : ℕ) → all ≡ done ++ r ∷ rest → k ≡ length done → slice_get all k ≡ Some r
-middle_at all done r rest k e i = ap (slice_get all) i ∙ ap (λ xs. slice_get xs (length done)) e ∙ get-middle done r rest
+middle_at all done r rest k e i = ap (slice_get all) i ∙ ap (λ xs. slice_get xs (length done)) e ∙ get_middle done r rest
 
 -- where the reading of sizes and arrays stands
 pub record At (d : Names) (t : Table) (ss1 ss : List ShapeOf) (s1 s2 : List SizeRow) (a1 a2 : List ArrayRow) : Type 0 where
@@ -151,7 +153,7 @@ shapes_go d t ss1 (shape.Size k ∷ ss) s1 (r ∷ s2) a1 a2 at h =
       shapes = at.shapes ∙ sym (append_assoc ss1 (shape.Size k ∷ []) ss);
       sizes = at.sizes ∙ sym (append_assoc s1 (r ∷ []) s2);
       arrays = at.arrays;
-      order = subst (λ (n : ℕ). InOrder n (length a1) ss (length t.sizes) (length t.arrays)) (sym (length-last s1 r)) at.order.1;
+      order = subst (λ (n : ℕ). InOrder n (length a1) ss (length t.sizes) (length t.arrays)) (sym (length_push s1 r)) at.order.1;
     } in
     let more : Goes d (shapes_so_far (ss1 ++ shape.Size k ∷ []) (s1 ++ r ∷ []) a1) (flat_map (λ s. shape_forms t s) ss) (shapes_so_far t.shapes t.sizes t.arrays) = shapes_go d t (ss1 ++ shape.Size k ∷ []) ss (s1 ++ r ∷ []) s2 a1 a2 next h in
     let goes : Goes d (shapes_so_far ss1 s1 a1) (size_form r ∷ flat_map (λ s. shape_forms t s) ss) (shapes_so_far t.shapes t.sizes t.arrays) = (
@@ -168,7 +170,7 @@ shapes_go d t ss1 (shape.Array k ∷ ss) s1 s2 a1 (r ∷ a2) at h =
       shapes = at.shapes ∙ sym (append_assoc ss1 (shape.Array k ∷ []) ss);
       sizes = at.sizes;
       arrays = at.arrays ∙ sym (append_assoc a1 (r ∷ []) a2);
-      order = subst (λ (n : ℕ). InOrder (length s1) n ss (length t.sizes) (length t.arrays)) (sym (length-last a1 r)) at.order.1;
+      order = subst (λ (n : ℕ). InOrder (length s1) n ss (length t.sizes) (length t.arrays)) (sym (length_push a1 r)) at.order.1;
     } in
     let more : Goes d (shapes_so_far (ss1 ++ shape.Array k ∷ []) s1 (a1 ++ r ∷ [])) (flat_map (λ s. shape_forms t s) ss) (shapes_so_far t.shapes t.sizes t.arrays) = shapes_go d t (ss1 ++ shape.Array k ∷ []) ss s1 s2 (a1 ++ r ∷ []) a2 next h in
     let goes : Goes d (shapes_so_far ss1 s1 a1) (array_form r ∷ flat_map (λ s. shape_forms t s) ss) (shapes_so_far t.shapes t.sizes t.arrays) = (

@@ -5,9 +5,12 @@ use Rattle.std.specs.Str.{bytes_eq}
 use Rattle.std.specs.List.{AllByRecursion}
 use Rattle.std.proofs.lemmas.Bool.{eqb-true}
 use Rattle.std.proofs.lemmas.List.{append-nil}
-use Rattle.std.proofs.lemmas.Slice.Eq.{bytes_eq-Decides}
 use Rattle.text_lines.specs.Words.{is_name}
-use Rattle.text_lines.specs.Reading.{◌>>=◌, word_at, name_at, key_at, ended}
+use Rattle.lists.specs.Binds.{◌>>=◌}
+use Rattle.lists.proofs.Options.{bind_some}
+use Rattle.lists.proofs.Bools.{if_some, cond_some, chosen, bytes_same}
+use Rattle.std.proofs.lemmas.Option.{same_Some}
+use Rattle.text_lines.specs.Reading.{word_at, name_at, key_at, ended}
 use Rattle.trace_ops.specs.declared.trace.Kind.{Kind}
 use Rattle.trace_ops.specs.declared.trace.Kind.TheVariants.{Int, Ref}
 use Rattle.descr_table.specs.declared.form.Form.{Form}
@@ -26,46 +29,24 @@ AreNames ns = AllByRecursion (λ n. is_name n ≡ true) ns
 
 -- ---- steps
 
-bind_some : {A B : Type 0} (o : Option A) (f : A → Option B) (y : B) → (o >>= f) ≡ Some y → (x : A) × (o ≡ Some x) × (f x ≡ Some y)
-bind_some (Some x) f y e = (x, refl, e)
-bind_some None f y e = absurd cc
-
-guard : {A : Type 0} (b : Bool) (x y : A) → cond b (Some x) None ≡ Some y → (b ≡ true) × (x ≡ y)
-guard true x y e = (refl, cc)
-guard false x y e = absurd cc
-
-passes : {A : Type 0} (b : Bool) (o : Option A) (y : A) → cond b o None ≡ Some y → (b ≡ true) × (o ≡ Some y)
-passes true o y e = (refl, e)
-passes false o y e = absurd cc
-
-chosen : {A : Type 0} (b : Bool) (x y z : A) → cond b x y ≡ z → ((b ≡ true) × (x ≡ z)) ⊎ ((b ≡ false) × (y ≡ z))
-chosen true x y z e = inl (refl, e)
-chosen false x y z e = inr (refl, e)
-
-some_is : {A : Type 0} (x y : A) → Some x ≡ Some y → x ≡ y
-some_is x y e = cc
-
-is_key : (w key : List ℕ) → bytes_eq w key ≡ true → w ≡ key
-is_key w key e = (bytes_eq-Decides w key).0 e
-
 name_takes : (ws : Words) (x : List ℕ × Words) → name_at ws ≡ Some x → (ws ≡ x.0 ∷ x.1) × (is_name x.0 ≡ true)
 unfolding name_at
 name_takes [] x e = absurd cc
 name_takes (w ∷ ws) x e =
-    let g = guard (is_name w) (w, ws) x e in
+    let g = if_some (is_name w) (w, ws) x e in
     subst (λ (y : List ℕ × Words). (w ∷ ws ≡ y.0 ∷ y.1) × (is_name y.0 ≡ true)) g.1 (refl, g.0)
 
 key_takes : (key : List ℕ) (ws rest : Words) → key_at key ws ≡ Some rest → ws ≡ key ∷ rest
 unfolding key_at
 key_takes key [] rest e = absurd cc
 key_takes key (w ∷ ws) rest e =
-    let g = guard (bytes_eq w key) ws rest e in
-    let same : w ≡ key = is_key w key g.0 in
+    let g = if_some (bytes_eq w key) ws rest e in
+    let same : w ≡ key = bytes_same w key g.0 in
     rw (same, g.1) refl
 
 word_takes : (ws : Words) (x : List ℕ × Words) → word_at ws ≡ Some x → ws ≡ x.0 ∷ x.1
 word_takes [] x e = absurd cc
-word_takes (w ∷ ws) x e = let same : (w, ws) ≡ x = some_is (w, ws) x e in ap (λ (y : List ℕ × Words). y.0 ∷ y.1) same
+word_takes (w ∷ ws) x e = let same : (w, ws) ≡ x = same_Some (w, ws) x e in ap (λ (y : List ℕ × Words). y.0 ∷ y.1) same
 
 ended_takes : {A : Type 0} (x y : A) (ws : Words) → ended x ws ≡ Some y → (ws ≡ []) × (x ≡ y)
 ended_takes x y [] e = (refl, cc)
@@ -75,15 +56,15 @@ abbrev SpellsKind : Words → Kind × Words → Type 0
 SpellsKind ws x = ws ≡ kind_word x.0 ∷ x.1
 
 kind_step : (w : List ℕ) (ws : Words) (k : Kind) (x : Kind × Words) → bytes_eq w (kind_word k) ≡ true → (k, ws) ≡ x → SpellsKind (w ∷ ws) x
-kind_step w ws k x e same = subst (SpellsKind (w ∷ ws)) same (ap (λ (v : List ℕ). v ∷ ws) (is_key w (kind_word k) e))
+kind_step w ws k x e same = subst (SpellsKind (w ∷ ws)) same (ap (λ (v : List ℕ). v ∷ ws) (bytes_same w (kind_word k) e))
 
 kind_takes : (ws : Words) (x : Kind × Words) → kind_at ws ≡ Some x → SpellsKind ws x
 unfolding kind_at
 kind_takes [] x e = absurd cc
 kind_takes (w ∷ ws) x e =
     elim (chosen (bytes_eq w (codes "i")) (Some (Int, ws)) (cond (bytes_eq w (codes "r")) (Some (Ref, ws)) None) (Some x) e) [
-      | inl h ↦ kind_step w ws Int x h.0 (some_is (Int, ws) x h.1)
-      | inr h ↦ let g = guard (bytes_eq w (codes "r")) (Ref, ws) x h.1 in kind_step w ws Ref x g.0 g.1
+      | inl h ↦ kind_step w ws Int x h.0 (same_Some (Int, ws) x h.1)
+      | inr h ↦ let g = if_some (bytes_eq w (codes "r")) (Ref, ws) x h.1 in kind_step w ws Ref x g.0 g.1
     ]
 
 abbrev Gives : Type 0
@@ -96,17 +77,17 @@ abbrev gives : Option Kind → Words → Gives
 gives k ws = (k, ws)
 
 result_step : (w : List ℕ) (ws : Words) (k : Option Kind) (x : Gives) → bytes_eq w (result_word k) ≡ true → gives k ws ≡ x → SpellsResult (w ∷ ws) x
-result_step w ws k x e same = subst (SpellsResult (w ∷ ws)) same (ap (λ (v : List ℕ). v ∷ ws) (is_key w (result_word k) e))
+result_step w ws k x e same = subst (SpellsResult (w ∷ ws)) same (ap (λ (v : List ℕ). v ∷ ws) (bytes_same w (result_word k) e))
 
 result_takes : (ws : Words) (x : Gives) → result_at ws ≡ Some x → SpellsResult ws x
 unfolding result_at
 result_takes [] x e = absurd cc
 result_takes (w ∷ ws) x e =
     elim (chosen (bytes_eq w (codes "i")) (Some (gives (Some Int) ws)) (cond (bytes_eq w (codes "r")) (Some (gives (Some Ref) ws)) (cond (bytes_eq w (codes "n")) (Some (gives None ws)) None)) (Some x) e) [
-      | inl h ↦ result_step w ws (Some Int) x h.0 (some_is (gives (Some Int) ws) x h.1)
+      | inl h ↦ result_step w ws (Some Int) x h.0 (same_Some (gives (Some Int) ws) x h.1)
       | inr r ↦ elim (chosen (bytes_eq w (codes "r")) (Some (gives (Some Ref) ws)) (cond (bytes_eq w (codes "n")) (Some (gives None ws)) None) (Some x) r.1) [
-        | inl h ↦ result_step w ws (Some Ref) x h.0 (some_is (gives (Some Ref) ws) x h.1)
-        | inr h ↦ let g = guard (bytes_eq w (codes "n")) (gives None ws) x h.1 in result_step w ws None x g.0 g.1
+        | inl h ↦ result_step w ws (Some Ref) x h.0 (same_Some (gives (Some Ref) ws) x h.1)
+        | inr h ↦ let g = if_some (bytes_eq w (codes "n")) (gives None ws) x h.1 in result_step w ws None x g.0 g.1
       ]
     ]
 
@@ -115,13 +96,13 @@ result_takes (w ∷ ws) x e =
 letter_takes : (c : ℕ) (k : Kind) → kind_of_letter c ≡ Some k → c ≡ kind_letter k
 letter_takes c k e =
     elim (chosen (eqb c 105) (Some Int) (cond (eqb c 114) (Some Ref) None) (Some k) e) [
-      | inl h ↦ let same : Int ≡ k = some_is Int k h.1 in eqb-true c 105 h.0 ∙ ap kind_letter same
-      | inr h ↦ let g = guard (eqb c 114) Ref k h.1 in eqb-true c 114 g.0 ∙ ap kind_letter g.1
+      | inl h ↦ let same : Int ≡ k = same_Some Int k h.1 in eqb-true c 105 h.0 ∙ ap kind_letter same
+      | inr h ↦ let g = if_some (eqb c 114) Ref k h.1 in eqb-true c 114 g.0 ∙ ap kind_letter g.1
     ]
 
 letters_take : (s ks : List Kind) (cs : List ℕ) → letters_at s cs ≡ Some ks → (front : List Kind) × (ks ≡ s ++ front) × (cs ≡ map kind_letter front)
 unfolding letters_at
-letters_take s ks [] e = ([], sym (some_is s ks e) ∙ sym (append-nil s), refl)
+letters_take s ks [] e = ([], sym (same_Some s ks e) ∙ sym (append-nil s), refl)
 letters_take s ks (c ∷ cs) e =
     let a = bind_some (kind_of_letter c) (λ k. letters_at (s ++ k ∷ []) cs) ks e in
     let r = letters_take (s ++ a.0 ∷ []) ks cs a.2 in
@@ -131,13 +112,13 @@ letters_take s ks (c ∷ cs) e =
 some_kinds_take : (o : Option (List Kind)) (ks : List Kind) → some_kinds o ≡ Some ks → (k : Kind) × (more : List Kind) × (ks ≡ k ∷ more) × (o ≡ Some ks)
 some_kinds_take None ks e = absurd cc
 some_kinds_take (Some []) ks e = absurd cc
-some_kinds_take (Some (k ∷ more)) ks e = (k, more, sym (some_is (k ∷ more) ks e), e)
+some_kinds_take (Some (k ∷ more)) ks e = (k, more, sym (same_Some (k ∷ more) ks e), e)
 
 kinds_take : (w : List ℕ) (ks : List Kind) → kinds_of w ≡ Some ks → w ≡ kinds_word ks
 unfolding kinds_of
 kinds_take w ks e =
     elim (chosen (bytes_eq w (codes "-")) (Some []) (some_kinds (letters_at [] w)) (Some ks) e) [
-      | inl h ↦ let none : [] ≡ ks = some_is [] ks h.1 in is_key w (codes "-") h.0 ∙ ap kinds_word none
+      | inl h ↦ let none : [] ≡ ks = same_Some [] ks h.1 in bytes_same w (codes "-") h.0 ∙ ap kinds_word none
       | inr h ↦
           let a = some_kinds_take (letters_at [] w) ks h.1 in
           let b = letters_take [] ks w a.3 in
@@ -147,9 +128,9 @@ kinds_take w ks e =
 
 names_take : (s ns ws : Words) → names_at s ws ≡ Some ns → (ns ≡ s ++ ws) × AreNames ws
 unfolding names_at
-names_take s ns [] e = (sym (some_is s ns e) ∙ sym (append-nil s), tt)
+names_take s ns [] e = (sym (same_Some s ns e) ∙ sym (append-nil s), tt)
 names_take s ns (w ∷ ws) e =
-    let g = passes (is_name w) (names_at (s ++ w ∷ []) ws) ns e in
+    let g = cond_some (is_name w) (names_at (s ++ w ∷ []) ws) ns e in
     let r = names_take (s ++ w ∷ []) ns ws g.1 in
     (r.0 ∙ append_assoc s (w ∷ []) ws, (g.0, r.1))
 
@@ -158,12 +139,12 @@ TakesReads s ns ws = (front : Words) × (ns ≡ s ++ front) × (ws ≡ front ++ 
 
 reads_take : (s ns ws : Words) → reads_at s ws ≡ Some ns → TakesReads s ns ws
 unfolding reads_at onward
-reads_take s ns [] e = ([], sym (some_is s ns e) ∙ sym (append-nil s), refl, tt)
+reads_take s ns [] e = ([], sym (same_Some s ns e) ∙ sym (append-nil s), refl, tt)
 reads_take s ns (w ∷ ws) e =
     elim (chosen (bytes_eq w (codes "writes")) (Some s) (cond (is_name w) (reads_at (s ++ w ∷ []) ws) None) (Some ns) e) [
-      | inl h ↦ ([], sym (some_is s ns h.1) ∙ sym (append-nil s), rw h.0 refl, tt)
+      | inl h ↦ ([], sym (same_Some s ns h.1) ∙ sym (append-nil s), rw h.0 refl, tt)
       | inr h ↦
-          let g = passes (is_name w) (reads_at (s ++ w ∷ []) ws) ns h.1 in
+          let g = cond_some (is_name w) (reads_at (s ++ w ∷ []) ws) ns h.1 in
           let r = reads_take (s ++ w ∷ []) ns ws g.1 in
           let rest : w ∷ ws ≡ w ∷ (r.0 ++ onward (codes "writes") ws) = ap (λ (x : Words). w ∷ x) r.2 in
           (w ∷ r.0, r.1 ∙ append_assoc s (w ∷ []) r.0, rw h.0 rest, ((h.0, g.0), r.3))
@@ -172,7 +153,7 @@ reads_take s ns (w ∷ ws) e =
 some_names_take : (o : Option Words) (ns : Words) → some_names o ≡ Some ns → (n : List ℕ) × (more : Words) × (ns ≡ n ∷ more) × (o ≡ Some ns)
 some_names_take None ns e = absurd cc
 some_names_take (Some []) ns e = absurd cc
-some_names_take (Some (n ∷ more)) ns e = (n, more, sym (some_is (n ∷ more) ns e), e)
+some_names_take (Some (n ∷ more)) ns e = (n, more, sym (same_Some (n ∷ more) ns e), e)
 
 -- the words from `writes` on begin with it
 onward_takes : (ws : Words) → (onward (codes "writes") ws ≡ []) ⊎ ((rest : Words) × (onward (codes "writes") ws ≡ codes "writes" ∷ rest))
@@ -181,12 +162,12 @@ onward_takes [] = inl refl
 onward_takes (w ∷ ws) = by_key (bytes_eq w (codes "writes")) refl (onward_takes ws) where
   by_key : (b : Bool) → bytes_eq w (codes "writes") ≡ b → (onward (codes "writes") ws ≡ []) ⊎ ((rest : Words) × (onward (codes "writes") ws ≡ codes "writes" ∷ rest))
       → (cond b (w ∷ ws) (onward (codes "writes") ws) ≡ []) ⊎ ((rest : Words) × (cond b (w ∷ ws) (onward (codes "writes") ws) ≡ codes "writes" ∷ rest))
-  by_key true e others = inr (ws, ap (λ (v : List ℕ). v ∷ ws) (is_key w (codes "writes") e))
+  by_key true e others = inr (ws, ap (λ (v : List ℕ). v ∷ ws) (bytes_same w (codes "writes") e))
   by_key false e others = others
 
 listed_takes : (ws : Words) (vs : Words) → (ws ≡ []) ⊎ ((rest : Words) × (ws ≡ codes "writes" ∷ rest)) → listed ws ≡ Some vs → (ws ≡ listed_words (codes "writes") vs) × AreNames vs
 listed_takes ws vs (inl h) e =
-    let none : [] ≡ vs = some_is [] vs (sym (ap listed h) ∙ e) in
+    let none : [] ≡ vs = same_Some [] vs (sym (ap listed h) ∙ e) in
     subst (λ (x : Words). (ws ≡ listed_words (codes "writes") x) × AreNames x) none (h, tt)
 listed_takes ws vs (inr h) e =
     let a = some_names_take (names_at [] h.0) vs (sym (ap listed h.1) ∙ e) in
@@ -204,16 +185,16 @@ TakesLists ws rs = (ws ≡ listed_words (codes "reads") rs ++ onward (codes "wri
 
 reads_of_take : (ws rs : Words) → reads_of ws ≡ Some rs → TakesLists ws rs
 unfolding reads_of onward
-reads_of_take [] rs e = subst (TakesLists []) (some_is [] rs e) (refl, tt)
+reads_of_take [] rs e = subst (TakesLists []) (same_Some [] rs e) (refl, tt)
 reads_of_take (w ∷ ws) rs e =
     elim (chosen (bytes_eq w (codes "writes")) (Some []) (cond (bytes_eq w (codes "reads")) (some_names (reads_at [] ws)) None) (Some rs) e) [
-      | inl h ↦ let P : Words → Type 0 = λ x. TakesLists (w ∷ ws) x in subst P (some_is [] rs h.1) (rw h.0 refl, tt)
+      | inl h ↦ let P : Words → Type 0 = λ x. TakesLists (w ∷ ws) x in subst P (same_Some [] rs h.1) (rw h.0 refl, tt)
       | inr h ↦
-          let g = passes (bytes_eq w (codes "reads")) (some_names (reads_at [] ws)) rs h.1 in
+          let g = cond_some (bytes_eq w (codes "reads")) (some_names (reads_at [] ws)) rs h.1 in
           let a = some_names_take (reads_at [] ws) rs g.1 in
           let b = reads_take [] rs ws a.3 in
           let front : b.0 ≡ a.0 ∷ a.1 = sym b.1 ∙ a.2 in
-          let key : w ∷ ws ≡ codes "reads" ∷ ws = ap (λ (v : List ℕ). v ∷ ws) (is_key w (codes "reads") g.0) in
+          let key : w ∷ ws ≡ codes "reads" ∷ ws = ap (λ (v : List ℕ). v ∷ ws) (bytes_same w (codes "reads") g.0) in
           let rest : ws ≡ (a.0 ∷ a.1) ++ onward (codes "writes") ws = b.2 ∙ ap (λ (x : Words). x ++ onward (codes "writes") ws) front in
           let all : w ∷ ws ≡ listed_words (codes "reads") rs ++ onward (codes "writes") ws = key ∙ ap (λ (x : Words). codes "reads" ∷ x) rest ∙ ap (λ (x : Words). listed_words (codes "reads") x ++ onward (codes "writes") ws) (sym a.2) in
           (rw h.0 all, subst (AllByRecursion IsReadName) (sym b.1) b.3)
@@ -226,18 +207,18 @@ part n x = record { name = n; value = x }
 
 part_takes : (n q v : List ℕ) (p : Part) → part_of n q v ≡ Some p → (n ≡ p.name) × (q ≡ codes "=") × (given_of v ≡ Some p.value) × (is_name p.name ≡ true)
 part_takes n q v p e =
-    let g = passes (is_name n) (cond (bytes_eq q (codes "=")) (given_of v >>= λ x. Some (part n x)) None) p e in
-    let h = passes (bytes_eq q (codes "=")) (given_of v >>= λ x. Some (part n x)) p g.1 in
+    let g = cond_some (is_name n) (cond (bytes_eq q (codes "=")) (given_of v >>= λ x. Some (part n x)) None) p e in
+    let h = cond_some (bytes_eq q (codes "=")) (given_of v >>= λ x. Some (part n x)) p g.1 in
     let b = bind_some (given_of v) (λ x. Some (part n x)) p h.1 in
-    let is : part n b.0 ≡ p = some_is (part n b.0) p b.2 in
-    (ap (λ (x : Part). x.name) is, is_key q (codes "=") h.0, b.1 ∙ ap (λ (x : Part). Some x.value) is, sym (ap (λ (x : Part). is_name x.name) is) ∙ g.0)
+    let is : part n b.0 ≡ p = same_Some (part n b.0) p b.2 in
+    (ap (λ (x : Part). x.name) is, bytes_same q (codes "=") h.0, b.1 ∙ ap (λ (x : Part). Some x.value) is, sym (ap (λ (x : Part). is_name x.name) is) ∙ g.0)
 
 abbrev TakesParts : List Part → List Part → Words → Type 0
 TakesParts s ps ws = (front : List Part) × (ps ≡ s ++ front) × SpellsParts ws front × AllByRecursion (λ p. is_name p.name ≡ true) front
 
 parts_take : (s ps : List Part) (ws : Words) → parts_at s ws ≡ Some ps → TakesParts s ps ws
 unfolding parts_at
-parts_take s ps [] e = ([], sym (some_is s ps e) ∙ sym (append-nil s), tt, tt)
+parts_take s ps [] e = ([], sym (same_Some s ps e) ∙ sym (append-nil s), tt, tt)
 parts_take s ps (n ∷ []) e = absurd cc
 parts_take s ps (n ∷ q ∷ []) e = absurd cc
 parts_take s ps (n ∷ q ∷ v ∷ ws) e =
@@ -258,11 +239,11 @@ items_take s xs (v ∷ m ∷ ws) e =
     elim (chosen (bytes_eq m (codes ",")) (items_at (s ++ a.0 ∷ []) ws) (cond (bytes_eq m (codes "]")) (ended (s ++ a.0 ∷ []) ws) None) (Some xs) a.2) [
       | inl h ↦
           let r = items_take (s ++ a.0 ∷ []) xs ws h.1 in
-          (a.0, r.0 ∷ r.1, r.2 ∙ append_assoc s (a.0 ∷ []) (r.0 ∷ r.1), (a.1, is_key m (codes ",") h.0, r.3))
+          (a.0, r.0 ∷ r.1, r.2 ∙ append_assoc s (a.0 ∷ []) (r.0 ∷ r.1), (a.1, bytes_same m (codes ",") h.0, r.3))
       | inr h ↦
-          let g = passes (bytes_eq m (codes "]")) (ended (s ++ a.0 ∷ []) ws) xs h.1 in
+          let g = cond_some (bytes_eq m (codes "]")) (ended (s ++ a.0 ∷ []) ws) xs h.1 in
           let t = ended_takes (s ++ a.0 ∷ []) xs ws g.1 in
-          (a.0, [], sym t.1, (a.1, is_key m (codes "]") g.0, t.0))
+          (a.0, [], sym t.1, (a.1, bytes_same m (codes "]") g.0, t.0))
     ]
 
 array_takes_items : (ws : Words) (xs : List Given) → array_of ws ≡ Some xs → SpellsItems ws xs
@@ -273,7 +254,7 @@ array_takes_items (w ∷ ws) xs e =
     elim (chosen (bytes_eq w (codes "]")) (ended [] ws) (items_at [] (w ∷ ws)) (Some xs) e) [
       | inl h ↦
           let t = ended_takes [] xs ws h.1 in
-          let all : w ∷ ws ≡ codes "]" ∷ [] = cc (is_key w (codes "]") h.0, t.0) in
+          let all : w ∷ ws ≡ codes "]" ∷ [] = cc (bytes_same w (codes "]") h.0, t.0) in
           subst P t.1 all
       | inr h ↦ let r = items_take [] xs (w ∷ ws) h.1 in subst P (sym r.2) r.3
     ]
@@ -304,7 +285,7 @@ function_takes ws f e =
     subst (Takes (codes "function") ws) c.1 (same, n.1)
 
 size_rest_takes : (n : List ℕ) (ws : Words) (f : Form) → is_name n ≡ true → size_rest n ws ≡ Some f → Takes (codes "size") (n ∷ ws) f
-size_rest_takes n [] f h e = let is : Size n None ≡ f = some_is (Size n None) f e in subst (Takes (codes "size") (n ∷ [])) is (refl, (h, tt))
+size_rest_takes n [] f h e = let is : Size n None ≡ f = same_Some (Size n None) f e in subst (Takes (codes "size") (n ∷ [])) is (refl, (h, tt))
 size_rest_takes n (w ∷ ws) f h e =
     let a = bind_some (key_at (codes "vtable") (w ∷ ws)) (λ rest. name_at rest >>= λ vtable. ended (Size n (Some vtable.0)) vtable.1) f e in
     let b = bind_some (name_at a.0) (λ vtable. ended (Size n (Some vtable.0)) vtable.1) f a.2 in
@@ -323,7 +304,7 @@ size_takes ws f e =
 
 field_rest_takes : (n s : List ℕ) (k : Kind) (ws : Words) (f : Form) → is_name n ≡ true → is_name s ≡ true → field_rest n s k ws ≡ Some f
     → Takes (codes "field") (n ∷ codes "of" ∷ s ∷ kind_word k ∷ ws) f
-field_rest_takes n s k [] f h i e = let is : Field n s k false ≡ f = some_is (Field n s k false) f e in subst (Takes (codes "field") (n ∷ codes "of" ∷ s ∷ kind_word k ∷ [])) is (refl, (h, i))
+field_rest_takes n s k [] f h i e = let is : Field n s k false ≡ f = same_Some (Field n s k false) f e in subst (Takes (codes "field") (n ∷ codes "of" ∷ s ∷ kind_word k ∷ [])) is (refl, (h, i))
 field_rest_takes n s k (w ∷ ws) f h i e =
     let a = bind_some (key_at (codes "immutable") (w ∷ ws)) (λ rest. ended (Field n s k true) rest) f e in
     let c = ended_takes (Field n s k true) f a.0 a.2 in
@@ -378,7 +359,7 @@ call_takes ws f e =
     let h = bind_some (result_at g.0) (λ x. after_gives a.0.0 d.0 x) f g.2 in
     let r = bind_some (reads_of h.0.1) (λ x. after_reads a.0.0 d.0 h.0 x) f h.2 in
     let w = bind_some (writes_of h.0.1) (λ x. Some (Call a.0.0 d.0 h.0.0 r.0 x)) f r.2 in
-    let is : Call a.0.0 d.0 h.0.0 r.0 w.0 ≡ f = some_is (Call a.0.0 d.0 h.0.0 r.0 w.0) f w.2 in
+    let is : Call a.0.0 d.0 h.0.0 r.0 w.0 ≡ f = same_Some (Call a.0.0 d.0 h.0.0 r.0 w.0) f w.2 in
     let n = name_takes ws a.0 a.1 in
     let args = key_takes (codes "args") a.0.1 b.0 b.1 in
     let letters = word_takes b.0 c.0 c.1 in
@@ -394,14 +375,14 @@ call_takes ws f e =
 body_takes : (n s : List ℕ) (ws : Words) (o : Option Words) (f : Form) → key_at (codes "[") ws ≡ o → is_name n ≡ true → is_name s ≡ true → body_at n s ws o ≡ Some f → Takes (codes "prebuilt") (n ∷ s ∷ ws) f
 body_takes n s ws None f k h i e =
     let a = bind_some (parts_at [] ws) (λ x. Some (Object n s x)) f e in
-    let is : Object n s a.0 ≡ f = some_is (Object n s a.0) f a.2 in
+    let is : Object n s a.0 ≡ f = same_Some (Object n s a.0) f a.2 in
     let p = parts_take [] a.0 ws a.1 in
     let spelled : SpellsParts ws a.0 = subst (λ (x : List Part). SpellsParts ws x) (sym p.1) p.2 in
     let names : AllByRecursion (λ p. is_name p.name ≡ true) a.0 = subst (AllByRecursion (λ p. is_name p.name ≡ true)) (sym p.1) p.3 in
     subst (Takes (codes "prebuilt") (n ∷ s ∷ ws)) is ((ws, refl, spelled), (h, i, names))
 body_takes n s ws (Some rest) f k h i e =
     let a = bind_some (array_of rest) (λ x. Some (Items n s x)) f e in
-    let is : Items n s a.0 ≡ f = some_is (Items n s a.0) f a.2 in
+    let is : Items n s a.0 ≡ f = same_Some (Items n s a.0) f a.2 in
     let open_ = key_takes (codes "[") ws rest k in
     subst (Takes (codes "prebuilt") (n ∷ s ∷ ws)) is ((rest, ap (λ (x : Words). codes "prebuilt" ∷ n ∷ s ∷ x) open_, array_takes_items rest a.0 a.1), (h, i))
 
@@ -416,7 +397,7 @@ prebuilt_takes ws f e =
     subst (λ (x : Words). Takes (codes "prebuilt") x f) same (body_takes a.0.0 b.0.0 b.0.1 (key_at (codes "[") b.0.1) f refl n.1 o.1 b.2)
 
 keyed : {A : Type 0} (k key : List ℕ) (x y z : A) → cond (bytes_eq k key) x y ≡ z → ((k ≡ key) × (x ≡ z)) ⊎ (y ≡ z)
-keyed k key x y z e = elim (chosen (bytes_eq k key) x y z e) [ inl h ↦ inl (is_key k key h.0, h.1) | inr h ↦ inr h.1 ]
+keyed k key x y z e = elim (chosen (bytes_eq k key) x y z e) [ inl h ↦ inl (bytes_same k key h.0, h.1) | inr h ↦ inr h.1 ]
 
 with_key : (k key : List ℕ) (ws : Words) (f : Form) → k ≡ key → Takes key ws f → Takes k ws f
 with_key k key ws f same t = subst (λ (x : List ℕ). Takes x ws f) (sym same) t

@@ -1,7 +1,8 @@
 -- The forms of the lines of a table, read from their words.
 use Rattle.std.specs.Prelude.{ℕ, true, false, Option, Some, None, List, [], ◌∷◌, codes, if◌then◌else◌}
 use Rattle.std.specs.Str.{bytes_eq}
-use Rattle.text_lines.specs.Reading.{◌>>=◌, word_at, name_at, key_at, ended}
+use Rattle.lists.specs.Binds.{◌>>=◌}
+use Rattle.text_lines.specs.Reading.{word_at, name_at, key_at, ended}
 use Rattle.trace_ops.specs.declared.trace.Kind.{Kind}
 use Rattle.descr_table.specs.declared.form.Form.{Form}
 use Rattle.descr_table.specs.declared.form.Form.TheVariants.{Size, Field, Array, Call, Function, Object, Items}

@@ -3,6 +3,9 @@ pub mod Form
 pub mod Known
 pub mod Meaning
 pub mod Reading
+pub mod Initials
 pub mod Draft
 pub mod Spelling
+pub mod Names
 pub mod Writing
+pub mod Laws

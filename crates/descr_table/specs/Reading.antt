@@ -2,7 +2,8 @@
 use Rattle.std.specs.Prelude.{◌≡◌, ℕ, Option, Some, None, Result, Ok, Err, List, [], ◌∷◌}
 use Rattle.text_lines.specs.Lines.{lines}
 use Rattle.text_lines.specs.Names.{with_name}
-use Rattle.text_lines.specs.Reading.{said, read_lines}
+use Rattle.lists.specs.Refused.{read_lines}
+use Rattle.text_lines.specs.Reading.{said}
 use Rattle.trace_ops.specs.declared.table.Table.{Table}
 use Rattle.descr_table.specs.declared.form.Form.{Form}
 use Rattle.descr_table.specs.declared.form.Form.TheVariants.{Size, Field, Array, Call, Function, Object, Items}

@@ -3,7 +3,8 @@ use Rattle.std.specs.Prelude.{ℕ, Bool, true, false, Option, Some, None, List, 
 use Rattle.std.specs.Str.{bytes_eq}
 use Rattle.text_lines.specs.Words.{is_name}
 use Rattle.text_lines.specs.Numbers.{integer_of}
-use Rattle.text_lines.specs.Reading.{◌>>=◌, word_at, ended}
+use Rattle.lists.specs.Binds.{◌>>=◌}
+use Rattle.text_lines.specs.Reading.{word_at, ended}
 use Rattle.trace_ops.specs.declared.trace.Kind.{Kind}
 use Rattle.trace_ops.specs.declared.trace.Kind.TheVariants as kind
 use Rattle.descr_table.specs.declared.form.Given.{Given}

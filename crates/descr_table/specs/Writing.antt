@@ -14,36 +14,7 @@ use Rattle.trace_ops.specs.declared.table.Initial.{Initial}
 use Rattle.trace_ops.specs.declared.table.Initial.TheVariants as initial
 use Rattle.trace_ops.specs.declared.table.Table.{Table}
 use Rattle.descr_table.specs.Spelling.{kind_word, kinds_word, result_word}
-
--- ---- the names of rows by their numbers
-
-abbrev pub size_name_in : Option SizeRow → List ℕ
-size_name_in None = []
-size_name_in (Some r) = r.name
-
-abbrev pub field_name_in : Option FieldRow → List ℕ
-field_name_in None = []
-field_name_in (Some r) = r.name
-
-abbrev pub array_name_in : Option ArrayRow → List ℕ
-array_name_in None = []
-array_name_in (Some r) = r.name
-
-abbrev pub prebuilt_name_in : Option PrebuiltRow → List ℕ
-prebuilt_name_in None = []
-prebuilt_name_in (Some r) = r.name
-
-abbrev pub size_name : Table → ℕ → List ℕ
-size_name t k = size_name_in (slice_get t.sizes k)
-
-abbrev pub field_name : Table → ℕ → List ℕ
-field_name t k = field_name_in (slice_get t.fields k)
-
-abbrev pub array_name : Table → ℕ → List ℕ
-array_name t k = array_name_in (slice_get t.arrays k)
-
-abbrev pub prebuilt_name : Table → ℕ → List ℕ
-prebuilt_name t k = prebuilt_name_in (slice_get t.prebuilts k)
+use Rattle.descr_table.specs.Names.{size_name, field_name, array_name, prebuilt_name, fields_in}
 
 -- ---- pieces of lines
 
@@ -99,10 +70,6 @@ more_items t xs = flat_map (λ x. (44 ∷ 32 ∷ []) ++ value_text t x) xs
 unfoldable pub items_text : Table → List Initial → List ℕ
 items_text t [] = []
 items_text t (x ∷ xs) = value_text t x ++ more_items t xs
-
-abbrev pub fields_in : Option SizeRow → List ℕ
-fields_in None = []
-fields_in (Some r) = r.fields
 
 unfoldable pub body_text : Table → ShapeOf → List Initial → List ℕ
 body_text t (shape.Size k) ps = word_text (size_name t k) ++ parts_text t (fields_in (slice_get t.sizes k)) ps

@@ -2,7 +2,8 @@
 
 ghost use Rattle.std.specs.Prelude.{◌≡◌, ◌<◌, ◌+◌, ◌^◌, ◌-◌, ◌≤◌, length, IfOk, OnOk};
 ghost use Rattle.text_lines.specs.Lines.{lines};
-ghost use Rattle.text_lines.specs.Reading.{said, read_lines};
+ghost use Rattle.lists.specs.Refused.{read_lines};
+ghost use Rattle.text_lines.specs.Reading.{said};
 ghost use Rattle.descr_table.specs.Form.{form_at};
 ghost use Rattle.descr_table.specs.Meaning.{nothing, refusal};
 ghost use Rattle.descr_table.specs.Reading.{prebuilt_name, defined_name, with_defined, defined_in, fault_at, after, read_line, table_at, Gives};
@@ -14,7 +15,7 @@ use crate::fault::{Refusal, TableFault};
 use crate::form::Form;
 use crate::line::said;
 use std::alloc::{AllocError, Global};
-use text_lines::{Names, next_line};
+use text_lines::{Names, lines_are_spelled, next_line};
 use trace_ops::{Table, Text};
 
 fn prebuilt_name(form: &Form) -> Option<Text>
@@ -145,6 +146,7 @@ pub fn read_table(alloc: Global, text: &[u8], first_line: u32) -> Result<Table, 
     ensures read { Gives result (table_at first_line text.now) }
     ensures in_range { IfOk result (λ t. IsTableInRange t) }
 {
+    lines_are_spelled();
     match defined_in(alloc, text) {
         Err(_) => Err(TableFault::OutOfMemory),
         Ok(defined) => read_all(alloc, text, first_line, &defined),

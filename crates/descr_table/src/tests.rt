@@ -3,9 +3,11 @@
 use crate::{read_table, write_table};
 use std::alloc::{AllocError, Global};
 use std::test::*;
+use text_lines::lines_are_few;
 
 // What reading answers, the first line being number 1.
 fn told(alloc: Global, text: &[u8]) -> Result<String, AllocError> {
+    lines_are_few();
     if text.len() > 100000 {
         return String::from_str(alloc, "long");
     }
@@ -119,6 +121,7 @@ fn bad_lines_are_refused(rt: HostRuntime) -> Result<(), Fail> {
 
 // The parts of the first prebuilt object.
 fn first_parts(alloc: Global, text: &[u8]) -> Result<String, AllocError> {
+    lines_are_few();
     if text.len() > 100000 {
         return String::from_str(alloc, "long");
     }
@@ -150,6 +153,7 @@ fn null_is_no_name_of_a_value(rt: HostRuntime) -> Result<(), Fail> {
 
 // What is written of the table that a text stands for.
 fn written(alloc: Global, text: &[u8]) -> Result<Vec<u8>, AllocError> {
+    lines_are_few();
     if text.len() > 100000 {
         return Ok(Vec::new(alloc));
     }

@@ -4,49 +4,15 @@ ghost use Rattle.std.specs.Prelude.{◌≡◌, ◌++◌, ◌∷◌, [], ℕ, Lis
 ghost use Rattle.std.specs.List.{flat_map};
 ghost use Rattle.descr_table.specs.Spelling.{kind_letter, kind_word, kinds_word, result_word};
 ghost use Rattle.descr_table.specs.Reading.{table_at};
-ghost use Rattle.descr_table.specs.Writing.{size_name, field_name, array_name, prebuilt_name, word_text, head_text, vtable_text, immutable_text, of_text, args_text, gives_text, names_text, list_text, value_text, part_text, parts_text, more_items, items_text, body_text, size_line, array_line, field_line, call_line, function_line, prebuilt_line, shape_line, table_text, fields_in};
+ghost use Rattle.descr_table.specs.Names.{size_name, field_name, array_name, prebuilt_name, fields_in};
+ghost use Rattle.descr_table.specs.Writing.{word_text, head_text, vtable_text, immutable_text, of_text, args_text, gives_text, names_text, list_text, value_text, part_text, parts_text, more_items, items_text, body_text, size_line, array_line, field_line, call_line, function_line, prebuilt_line, shape_line, table_text};
 
+use crate::names::{array_name, field_name, prebuilt_name, size_name};
 use std::alloc::{AllocError, Global};
-use text_lines::{put_integer, put_word};
+use text_lines::{lines_are_spelled, put_integer, put_word};
 use trace_ops::{
     ArrayRow, CallRow, FieldRow, Initial, Kind, PrebuiltRow, ShapeOf, SizeRow, Table, Text,
 };
-
-fn size_name(table: &Table, k: u32) -> &[u8]
-    ensures { result.now ≡ size_name table.now k }
-{
-    match table.sizes.items().get(k as usize) {
-        None => &[],
-        Some(row) => row.name.bytes(),
-    }
-}
-
-fn field_name(table: &Table, k: u32) -> &[u8]
-    ensures { result.now ≡ field_name table.now k }
-{
-    match table.fields.items().get(k as usize) {
-        None => &[],
-        Some(row) => row.name.bytes(),
-    }
-}
-
-fn array_name(table: &Table, k: u32) -> &[u8]
-    ensures { result.now ≡ array_name table.now k }
-{
-    match table.arrays.items().get(k as usize) {
-        None => &[],
-        Some(row) => row.name.bytes(),
-    }
-}
-
-fn prebuilt_name(table: &Table, k: u32) -> &[u8]
-    ensures { result.now ≡ prebuilt_name table.now k }
-{
-    match table.prebuilts.items().get(k as usize) {
-        None => &[],
-        Some(row) => row.name.bytes(),
-    }
-}
 
 #[tactic(auto, unfolding(crate::specs::Writing::head_text))]
 fn put_head(out: &mut Vec<u8>, key: &[u8], name: &Text) -> Result<(), AllocError>
@@ -396,6 +362,7 @@ pub fn write_table(alloc: Global, table: &Table) -> Result<Vec<u8>, AllocError>
     ensures text { IfOk result (λ v. v.items ≡ table_text table.now) }
     ensures read_back { IfOk result (λ v. (text : List ℕ) (first again : ℕ) → table_at first text ≡ Ok table.now → table_at again v.items ≡ Ok table.now) }
 {
+    lines_are_spelled();
     let mut out = Vec::new(alloc);
     put_shapes(&mut out, table)?;
     put_fields(&mut out, table)?;

@@ -6,7 +6,7 @@ use Rattle.trace_meaning.specs.Legs.{In, Over, run}
 use Rattle.trace_meaning.specs.Recorded.{RecordedNow, recorded}
 use Rattle.trace_meaning.specs.Observed.{state_of}
 use Rattle.trace_meaning.specs.Standing.{Run, stepped}
-use Rattle.trace_meaning.proofs.Running.{run-over}
+use Rattle.trace_meaning.specs.Laws.{RecordedRuns}
 use Rattle.recorded_seen.specs.Sessions.{after, is_going}
 
 pub after-stepped : (n : ℕ) (r s t : Run) → 0 < n → s ≡ stepped r → after n r ≡ t → after (n - 1) s ≡ t
@@ -15,10 +15,10 @@ after-stepped (suc n) r s t lt e h =
     let same : n ≡ suc n - 1 = omega arith in
     subst (λ m. after m s ≡ t) same (subst (λ x. after n x ≡ t) (sym e) h)
 
-run_stays : (set : TraceSet) (cuts : Cuts) (n : ℕ) (x : RecordedNow) → is_going (state_of set x) ≡ false → run (recorded set cuts) n x ≡ x
-run_stays set cuts n (In p rest s) h = absurd (cc)
-run_stays set cuts n (Over p l) h = run-over (recorded set cuts) p l n
+run_stays : (runs : RecordedRuns) (set : TraceSet) (cuts : Cuts) (n : ℕ) (x : RecordedNow) → is_going (state_of set x) ≡ false → run (recorded set cuts) n x ≡ x
+run_stays runs set cuts n (In p rest s) h = absurd (cc)
+run_stays runs set cuts n (Over p l) h = (runs set cuts).0.ended_stays p l n
 
 -- a run that has ended stays
-pub after-ended : (n : ℕ) (r : Run) → is_going (state_of r.set r.now) ≡ false → after n r ≡ r
-after-ended n r h = ap (λ (x : RecordedNow). record r { now = x }) (run_stays r.set r.cuts n r.now h)
+pub after-ended : (runs : RecordedRuns) (n : ℕ) (r : Run) → is_going (state_of r.set r.now) ≡ false → after n r ≡ r
+after-ended runs n r h = ap (λ (x : RecordedNow). record r { now = x }) (run_stays runs r.set r.cuts n r.now h)

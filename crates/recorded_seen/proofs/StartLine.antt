@@ -11,10 +11,6 @@ use Rattle.session_text.specs.declared.session.Line.{Line}
 use Rattle.session_text.specs.declared.session.Line.TheVariants as line
 use Rattle.recorded_seen.specs.Sessions.{activation_name, line_text, start_text, after}
 
-pub on_ok : {T E : Type 0} (r : Result T E) (P Q : Type 0) → (P → Q) → OnOk r P → OnOk r Q
-on_ok (Ok x) P Q f h = f h
-on_ok (Err e) P Q f h = tt
-
 pub start_text-line_text :
     (set : TraceSet) (names : List (List ℕ)) (n : ℕ) (cuts : Cuts) (l : Line) (a t : ℕ) (inputs : List Value) (answers : List Answer) (name : List ℕ) (r : Run)
     → l ≡ line.Start a t inputs answers → name ≡ activation_name names a → r ≡ begun set t inputs answers cuts → start_text name set (after n r) ≡ line_text set names n cuts l

@@ -4,7 +4,7 @@ use Rattle.trace_ops.specs.declared.table.Table.{Table}
 use Rattle.trace_meaning.specs.declared.value.Value.{Value}
 use Rattle.trace_meaning.specs.declared.call.CallEvent.{CallEvent}
 use Rattle.heap_shape.specs.declared.cell.Ref.{Ref}
-use Rattle.recorded_seen.specs.Names.{function_name}
+use Rattle.descr_table.specs.Names.{function_name}
 use Rattle.recorded_seen.specs.Values.{values_text, count_text}
 
 abbrev pub behind_given : Option Value → List Ref → List Ref

@@ -5,7 +5,7 @@ use Rattle.trace_ops.specs.declared.table.ShapeOf.TheVariants as shape
 use Rattle.trace_ops.specs.declared.table.Table.{Table}
 use Rattle.heap_shape.specs.declared.cell.Ref.{Ref}
 use Rattle.heap_shape.specs.declared.cell.Cell.{Cell}
-use Rattle.recorded_seen.specs.Names.{size_name, field_name, array_name, fields_of}
+use Rattle.descr_table.specs.Names.{size_name, field_name, array_name, fields_of}
 use Rattle.recorded_seen.specs.Values.{object_text, value_text, values_text, count_text}
 
 -- F=v behind a space

@@ -18,7 +18,8 @@ use Rattle.session_text.specs.declared.session.Line.TheVariants as line
 use Rattle.session_text.specs.declared.session.SessionText.{SessionText}
 use Rattle.recorded_seen.specs.declared.attaching.Judged.{Judged}
 use Rattle.recorded_seen.specs.declared.attaching.Judged.TheVariants.{Accepted, Already, NoParent}
-use Rattle.recorded_seen.specs.Names.{or_nothing, trace_name}
+use Rattle.descr_table.specs.Names.{or_nothing}
+use Rattle.recorded_seen.specs.Names.{trace_name}
 use Rattle.recorded_seen.specs.States.{seen_text}
 
 -- ---- attachments

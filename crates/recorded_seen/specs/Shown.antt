@@ -5,7 +5,7 @@ use Rattle.trace_meaning.specs.declared.value.Value.{Value}
 use Rattle.trace_meaning.specs.declared.call.CallEvent.{CallEvent}
 use Rattle.heap_shape.specs.declared.cell.Ref.{Ref}
 use Rattle.heap_shape.specs.Roots.{roots_of_calls}
-use Rattle.recorded_seen.specs.Names.{function_name}
+use Rattle.descr_table.specs.Names.{function_name}
 use Rattle.recorded_seen.specs.Values.{values_text}
 use Rattle.recorded_seen.specs.Calls.{behind_calls, call_lines}
 

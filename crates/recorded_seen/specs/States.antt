@@ -18,7 +18,7 @@ use Rattle.heap_shape.specs.declared.cell.Cell.{Cell}
 use Rattle.heap_shape.specs.Roots.{roots}
 use Rattle.heap_shape.specs.Listing.{listing}
 use Rattle.recorded_seen.specs.Names.{trace_name}
-use Rattle.recorded_seen.specs.Values.{value_text, values_text}
+use Rattle.recorded_seen.specs.Values.{value_text, values_text, count_text}
 use Rattle.recorded_seen.specs.Calls.{behind_calls, calls_text}
 use Rattle.recorded_seen.specs.Cells.{cells_text}
 
@@ -62,9 +62,9 @@ state_text set state.Wrong last = codes " wrong\n"
 unfoldable pub end_text : Table → List CallEvent → List Cell → List Ref → List ℕ
 end_text t calls cells refs = calls_text t calls refs ++ cells_text t cells
 
--- the calls, and at an end the cells; a wrong run shows neither
+-- the calls, and at an end the cells; a run that goes on shows how many calls there are, and a wrong one shows nothing
 abbrev pub blocks_text : Table → RecState → List CallEvent → List Cell → List Ref → List ℕ
-blocks_text t state.Going calls cells refs = calls_text t calls refs
+blocks_text t state.Going calls cells refs = count_text (codes "calls ") (length calls)
 blocks_text t (state.Finished x) calls cells refs = end_text t calls cells refs
 blocks_text t (state.Exited p n frames) calls cells refs = end_text t calls cells refs
 blocks_text t state.Waits calls cells refs = calls_text t calls refs

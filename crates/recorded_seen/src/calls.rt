@@ -3,9 +3,9 @@ ghost use Rattle.std.specs.Prelude.{◌≡◌, ◌++◌, OnOk};
 ghost use Rattle.recorded_seen.specs.Calls.{behind_call, behind_calls, call_line, call_lines, calls_text};
 
 use crate::listed::parted;
-use crate::names::function_name;
 use crate::puts::put_count;
 use crate::values::put_values;
+use descr_table::function_name;
 use heap_shape::Ref;
 use std::alloc::AllocError;
 use trace_meaning::CallEvent;

@@ -2,9 +2,9 @@
 ghost use Rattle.std.specs.Prelude.{◌≡◌, ◌++◌, OnOk};
 ghost use Rattle.recorded_seen.specs.Cells.{part_text, parts_text, shape_text, cell_line, cell_lines, cells_text};
 
-use crate::names::{array_name, field_name, fields_of, size_name};
 use crate::puts::put_count;
 use crate::values::{put_object, put_value, put_values};
+use descr_table::{array_name, field_name, fields_of, size_name};
 use heap_shape::{Cell, Ref};
 use std::alloc::AllocError;
 use trace_ops::{ShapeOf, Table};

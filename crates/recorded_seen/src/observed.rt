@@ -7,6 +7,7 @@ ghost use Rattle.recorded_seen.specs.States.{end_text, blocks_text, listed_text,
 use crate::calls::{behind_calls, put_calls};
 use crate::cells::put_cells;
 use crate::listed::{listed, parted};
+use crate::puts::put_count;
 use crate::states::put_state;
 use heap_shape::{Cell, Ref, roots};
 use std::alloc::{AllocError, Global};
@@ -38,7 +39,7 @@ fn put_blocks(
     ensures { OnOk result (out.new.items ≡ out.old.items ++ blocks_text table.now state.now calls.now cells.now refs.now) }
 {
     match state {
-        RecState::Going => put_calls(out, table, calls, refs),
+        RecState::Going => put_count(out, b"calls ", calls.len()),
         RecState::Finished(_value) => put_end(out, table, calls, cells, refs),
         RecState::Exited { .. } => put_end(out, table, calls, cells, refs),
         RecState::Waits => put_calls(out, table, calls, refs),

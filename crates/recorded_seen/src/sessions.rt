@@ -12,7 +12,7 @@ use crate::attaching::put_attach;
 use crate::observed::put_observed;
 use session_text::{Line, SessionText};
 use std::alloc::{AllocError, Global};
-use trace_meaning::{Answer, RecRun, RecState, Value};
+use trace_meaning::{Answer, RecRun, RecState, Value, recorded_runs};
 use trace_ops::{List, Text, TraceSet};
 
 /// A run makes at most so many objects, and at most so many calls.
@@ -44,6 +44,7 @@ fn step_within(run: &mut RecRun) -> Result<(), AllocError>
 pub fn run_for(run: &mut RecRun, operations: u64) -> Result<(), AllocError>
     ensures { OnOk result (run.new ≡ after operations run.old) }
 {
+    recorded_runs();
     let mut left = operations;
     while 0 < left && is_going(run.state()) {
         step_within(run)?;

@@ -22,7 +22,7 @@ use Rattle.trace_ops.specs.Lawful.{IsNumbered}
 use Rattle.trace_ops.specs.Pieces.{snapshots_of, guards_of}
 use Rattle.trace_ops.specs.Snapshots.{IsValue}
 use Rattle.trace_ops.specs.Sound.{AreApart, constants_in_arg, constants_in_val, constants_in, snapshots_in}
-use Rattle.trace_ops.proofs.Same.{arg_decides}
+use Rattle.trace_ops.specs.contracts.trace.ArgEq.TheImpl.Laws as arg_laws
 use Rattle.resume_numbering.specs.Tags.{small_index, with_integer, with_const, with_consts, MayNumber, MayNumberAll, IsKept}
 use Rattle.resume_numbering.specs.Values.{values_in, values_of_store, IsBoxBelow}
 use Rattle.resume_numbering.specs.Uses.{Guarded, guarded, after_frames, after_shapes, after_pending, after_snapshot, after_guards, MayFrames, MayShapes, MayPending, MayGuards, frames_in, shapes_in}
@@ -164,7 +164,7 @@ or_parts false b h = (refl, h)
 absent : (xs : List Arg) (x : Arg) → list_any (arg_eq.ghosts.eq x) xs ≡ false → (k : ℕ) → k < length xs → slice_index_or xs k x ≡ x → ⊥
 absent [] x h k w e = absurd (omega arith)
 absent (y ∷ ys) x h zero w e =
-    let same : arg_eq.ghosts.eq x y ≡ true = (arg_decides x y).1 (sym e) in
+    let same : arg_eq.ghosts.eq x y ≡ true = subst (λ z. arg_eq.ghosts.eq x z ≡ true) (sym e) (arg_laws.lawful.laws.refl x) in
     let wrong : false ≡ true = sym (or_parts (arg_eq.ghosts.eq x y) (list_any (arg_eq.ghosts.eq x) ys) h).0 ∙ same in
     cc
 absent (y ∷ ys) x h (suc k) w e = absent ys x (or_parts (arg_eq.ghosts.eq x y) (list_any (arg_eq.ghosts.eq x) ys) h).1 k (omega (arith, w)) e

@@ -1,5 +1,7 @@
 //! What ties numbering and reading together: laws over the definitions that the contracts cite.
 
+ghost use Rattle.resume_numbering.specs.Boxes.{BoxesTellKinds, ReadsOneOfBoxes};
+ghost use Rattle.resume_numbering.specs.Conditions.{SoundPiecesCanBeNumbered};
 ghost use Rattle.resume_numbering.specs.Reading.{ReadsOne, CanBeRead, ReadsSnapshots};
 
 /// A lawful table is read at a guard, with the kinds of the boxes, as at most one snapshot.
@@ -16,4 +18,16 @@ pub fn numbered_can_be_read()
 /// What is then read is the guard's snapshot.
 pub fn reads_snapshots()
     ensures { ReadsSnapshots }
+{}
+
+/// A sound piece is one that [`crate::number`] takes.
+pub fn sound_pieces_can_be_numbered()
+    ensures { SoundPiecesCanBeNumbered }
+{}
+
+/// Boxes of which no two have one number, and each of a snapshot is one, tell the kinds with which it is read: also where
+/// they stand in a list with their places.
+pub fn boxes_tell_kinds()
+    ensures kinds { BoxesTellKinds }
+    ensures one { ReadsOneOfBoxes }
 {}

@@ -2,9 +2,9 @@
 use Rattle.std.proofs.Common.{◌≡◌, ℕ, suc, ◌+◌, Bool, true, false, cond, List, [], ◌∷◌, Option, Some, None, refl, sym, ap, ◌∙◌, arith}
 use Rattle.std.specs.Prelude.{slice_get, is_some}
 use Rattle.std.specs.Str.{bytes_eq}
+use Rattle.lists.proofs.Bools.{bytes_same}
 use Rattle.indexmap.specs.IndexMap.{insert_entry}
 use Rattle.session_text.specs.Names.{look, with_first_if, firsts_from, is_named, first_from}
-use Rattle.session_text.proofs.Binds.{is_key}
 
 abbrev Entries : Type 0
 Entries = List (List ℕ × ℕ)
@@ -35,7 +35,7 @@ look-insert_entry q n k (x ∷ es) e =
 
 there : (q n : List ℕ) (k j : ℕ) (b : Bool) (es : Entries) → look n es ≡ Some j → bytes_eq q n ≡ b → look q es ≡ or_else (look q es) (when b k)
 there q n k j true es e h =
-    let same : q ≡ n = is_key q n h in
+    let same : q ≡ n = bytes_same q n h in
     rw (same, e) refl
 there q n k j false es e h = sym (or_else-none (look q es))
 

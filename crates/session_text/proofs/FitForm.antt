@@ -6,7 +6,10 @@ use Rattle.std.specs.List.{list_all}
 use Rattle.std.proofs.lemmas.Bool.{leb-true}
 use Rattle.text_lines.specs.Words.{is_name, is_digit, is_plain, words}
 use Rattle.text_lines.specs.Numbers.{value_behind, decimal_behind, decimal_of}
-use Rattle.text_lines.specs.Reading.{◌>>=◌, word_at, name_at, key_at, ended, is_skipped, said}
+use Rattle.lists.specs.Binds.{◌>>=◌}
+use Rattle.lists.proofs.Options.{bind_some}
+use Rattle.std.proofs.lemmas.Option.{same_Some}
+use Rattle.text_lines.specs.Reading.{word_at, name_at, key_at, ended, is_skipped, said}
 use Rattle.trace_ops.specs.declared.trace.TraceSet.{TraceSet}
 use Rattle.session_text.specs.declared.form.Form.{Form}
 use Rattle.session_text.specs.declared.form.Form.TheVariants as form
@@ -14,8 +17,9 @@ use Rattle.session_text.specs.declared.start.Start.{Start}
 use Rattle.session_text.specs.Names.{names_of}
 use Rattle.session_text.specs.Start.{start_at}
 use Rattle.session_text.specs.Form.{number_at, start_line_at, step_at, run_at, attach_at, form_at}
-use Rattle.session_text.proofs.Binds.{bind_some, some_is, name_takes, ended_takes}
+use Rattle.session_text.proofs.Binds.{name_takes, ended_takes}
 use Rattle.session_text.proofs.FitStart.{AreKnown, start_known}
+use Rattle.text_lines.specs.Laws.{LinesAreSpelled}
 
 abbrev pub FormFits : TraceSet → Form → Type 0
 FormFits set (form.Start a) = (is_name a.name ≡ true) × AreKnown set a.inputs
@@ -25,52 +29,42 @@ FormFits set (form.Attach name) = Unit {0}
 
 -- ---- numbers
 
-behind_limit : (a b : Bool) (limit v n : ℕ) → leb v limit ≡ b → cond (a && b) (Some v) None ≡ Some n → n ≤ limit
-behind_limit true true limit v n h e = let is : v ≡ n = cc in omega (arith, leb-true v limit h, is)
-behind_limit true false limit v n h e = absurd cc
-behind_limit false b limit v n h e = absurd cc
-
-decimal_limit : (limit : ℕ) (word : List ℕ) (n : ℕ) → decimal_of limit word ≡ Some n → n ≤ limit
-unfolding decimal_of decimal_behind
-decimal_limit limit [] n e = absurd cc
-decimal_limit limit (c ∷ cs) n e = behind_limit (list_all is_digit (c ∷ cs)) (leb (value_behind 0 (c ∷ cs)) limit) limit (value_behind 0 (c ∷ cs)) n refl e
-
-number_limit : (limit : ℕ) (ws : List (List ℕ)) (n : ℕ) → number_at limit ws ≡ Some n → n ≤ limit
+number_limit : (spelled : LinesAreSpelled) (limit : ℕ) (ws : List (List ℕ)) (n : ℕ) → number_at limit ws ≡ Some n → n ≤ limit
 unfolding number_at
-number_limit limit ws n e =
+number_limit spelled limit ws n e =
     let a = bind_some (word_at ws) (λ w. decimal_of limit w.0 >>= λ m. ended m w.1) n e in
     let b = bind_some (decimal_of limit a.0.0) (λ m. ended m a.0.1) n a.2 in
     let same : b.0 ≡ n = (ended_takes b.0 n a.0.1 b.2).1 in
-    subst (λ (m : ℕ). m ≤ limit) same (decimal_limit limit a.0.0 b.0 b.1)
+    subst (λ (m : ℕ). m ≤ limit) same (spelled.spelling.decimal_limit limit a.0.0 b.0 b.1)
 
 -- ---- forms
 
 begun_fits : (set : TraceSet) (name of : List ℕ) (s : Start) (f : Form) → is_name name ≡ true → AreKnown set s.inputs → Some (form.Start (record { name = name; of = of; lacks = s.lacks; inputs = s.inputs; answers = s.answers })) ≡ Some f → FormFits set f
-begun_fits set name of s f h k e = subst (FormFits set) (some_is (form.Start (record { name = name; of = of; lacks = s.lacks; inputs = s.inputs; answers = s.answers })) f e) (h, k)
+begun_fits set name of s f h k e = subst (FormFits set) (same_Some (form.Start (record { name = name; of = of; lacks = s.lacks; inputs = s.inputs; answers = s.answers })) f e) (h, k)
 
-start_fits : (set : TraceSet) (ws : List (List ℕ)) (f : Form) → start_line_at (names_of set) ws ≡ Some f → FormFits set f
+start_fits : (spelled : LinesAreSpelled) (set : TraceSet) (ws : List (List ℕ)) (f : Form) → start_line_at (names_of set) ws ≡ Some f → FormFits set f
 unfolding start_line_at
-start_fits set ws f e =
+start_fits spelled set ws f e =
     let made : List ℕ → List ℕ → Start → Option Form = λ name of s. Some (form.Start (record { name = name; of = of; lacks = s.lacks; inputs = s.inputs; answers = s.answers })) in
     let a = bind_some (name_at ws) (λ name. name_at name.1 >>= λ of. key_at (codes "(") of.1 >>= λ rest. start_at (names_of set) rest >>= λ s. made name.0 of.0 s) f e in
     let b = bind_some (name_at a.0.1) (λ of. key_at (codes "(") of.1 >>= λ rest. start_at (names_of set) rest >>= λ s. made a.0.0 of.0 s) f a.2 in
     let d = bind_some (key_at (codes "(") b.0.1) (λ rest. start_at (names_of set) rest >>= λ s. made a.0.0 b.0.0 s) f b.2 in
     let g = bind_some (start_at (names_of set) d.0) (λ s. made a.0.0 b.0.0 s) f d.2 in
-    begun_fits set a.0.0 b.0.0 g.0 f ((name_takes ws a.0 a.1).1) (start_known set d.0 g.0 g.1) g.2
+    begun_fits set a.0.0 b.0.0 g.0 f ((name_takes ws a.0 a.1).1) (start_known spelled set d.0 g.0 g.1) g.2
 
-step_fits : (set : TraceSet) (ws : List (List ℕ)) (f : Form) → step_at ws ≡ Some f → FormFits set f
+step_fits : (spelled : LinesAreSpelled) (set : TraceSet) (ws : List (List ℕ)) (f : Form) → step_at ws ≡ Some f → FormFits set f
 unfolding step_at
-step_fits set ws f e =
+step_fits spelled set ws f e =
     let a = bind_some (name_at ws) (λ name. number_at (10 ^ 7) name.1 >>= λ n. Some (form.Step name.0 n)) f e in
     let b = bind_some (number_at (10 ^ 7) a.0.1) (λ n. Some (form.Step a.0.0 n)) f a.2 in
-    subst (FormFits set) (some_is (form.Step a.0.0 b.0) f b.2) (number_limit (10 ^ 7) a.0.1 b.0 b.1)
+    subst (FormFits set) (same_Some (form.Step a.0.0 b.0) f b.2) (number_limit spelled (10 ^ 7) a.0.1 b.0 b.1)
 
-run_fits : (set : TraceSet) (ws : List (List ℕ)) (f : Form) → run_at ws ≡ Some f → FormFits set f
+run_fits : (spelled : LinesAreSpelled) (set : TraceSet) (ws : List (List ℕ)) (f : Form) → run_at ws ≡ Some f → FormFits set f
 unfolding run_at
-run_fits set ws f e =
+run_fits spelled set ws f e =
     let a = bind_some (name_at ws) (λ name. number_at (10 ^ 6) name.1 >>= λ n. Some (form.Run name.0 n)) f e in
     let b = bind_some (number_at (10 ^ 6) a.0.1) (λ n. Some (form.Run a.0.0 n)) f a.2 in
-    subst (FormFits set) (some_is (form.Run a.0.0 b.0) f b.2) (number_limit (10 ^ 6) a.0.1 b.0 b.1)
+    subst (FormFits set) (same_Some (form.Run a.0.0 b.0) f b.2) (number_limit spelled (10 ^ 6) a.0.1 b.0 b.1)
 
 attach_fits : (set : TraceSet) (ws : List (List ℕ)) (f : Form) → attach_at ws ≡ Some f → FormFits set f
 unfolding attach_at
@@ -88,17 +82,17 @@ either set false x y f g = g
 none_fits : (set : TraceSet) → FitsIf set None
 none_fits set f e = absurd cc
 
-pub form_fits : (set : TraceSet) (ws : List (List ℕ)) (f : Form) → form_at (names_of set) ws ≡ Some f → FormFits set f
+pub form_fits : (spelled : LinesAreSpelled) (set : TraceSet) (ws : List (List ℕ)) (f : Form) → form_at (names_of set) ws ≡ Some f → FormFits set f
 unfolding form_at
-form_fits set [] f e = absurd cc
-form_fits set (k ∷ ws) f e =
+form_fits spelled set [] f e = absurd cc
+form_fits spelled set (k ∷ ws) f e =
     let r1 : Option Form = cond (bytes_eq k (codes "attach")) (attach_at ws) None in
     let r2 : Option Form = cond (bytes_eq k (codes "run")) (run_at ws) r1 in
     let r3 : Option Form = cond (bytes_eq k (codes "step")) (step_at ws) r2 in
     let h1 : FitsIf set r1 = either set (bytes_eq k (codes "attach")) (attach_at ws) None (attach_fits set ws) (none_fits set) in
-    let h2 : FitsIf set r2 = either set (bytes_eq k (codes "run")) (run_at ws) r1 (run_fits set ws) h1 in
-    let h3 : FitsIf set r3 = either set (bytes_eq k (codes "step")) (step_at ws) r2 (step_fits set ws) h2 in
-    either set (bytes_eq k (codes "start")) (start_line_at (names_of set) ws) r3 (start_fits set ws) h3 f e
+    let h2 : FitsIf set r2 = either set (bytes_eq k (codes "run")) (run_at ws) r1 (run_fits spelled set ws) h1 in
+    let h3 : FitsIf set r3 = either set (bytes_eq k (codes "step")) (step_at ws) r2 (step_fits spelled set ws) h2 in
+    either set (bytes_eq k (codes "start")) (start_line_at (names_of set) ws) r3 (start_fits spelled set ws) h3 f e
 
 -- ---- lines
 
@@ -111,6 +105,6 @@ said_cases set true true o f h e = absurd cc
 said_cases set true false o f h e = said_by set o f h e
 said_cases set false d o f h e = absurd cc
 
-pub said_fits : (set : TraceSet) (line : List ℕ) (f : Form) → said (form_at (names_of set)) line ≡ Some (Some f) → FormFits set f
+pub said_fits : (spelled : LinesAreSpelled) (set : TraceSet) (line : List ℕ) (f : Form) → said (form_at (names_of set)) line ≡ Some (Some f) → FormFits set f
 unfolding said
-said_fits set line f e = said_cases set (is_plain line) (is_skipped (words line)) (form_at (names_of set) (words line)) f (form_fits set (words line)) e
+said_fits spelled set line f e = said_cases set (is_plain line) (is_skipped (words line)) (form_at (names_of set) (words line)) f (form_fits spelled set (words line)) e

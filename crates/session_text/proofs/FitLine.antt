@@ -3,9 +3,10 @@ use Rattle.std.proofs.Common.{◌≡◌, ℕ, ◌+◌, ◌<◌, ◌≤◌, ◌^�
 use Rattle.std.specs.Prelude.{◌&&◌, slice_get, option_map}
 use Rattle.std.specs.List.{AllZip, list_all, position_or_len}
 use Rattle.std.specs.Str.{bytes_eq}
-use Rattle.std.proofs.lemmas.Bool.{ltb-true, leb-true}
+use Rattle.std.proofs.lemmas.Bool.{ltb-true, leb-true, and_parts}
 use Rattle.std.proofs.lemmas.Option.{slice_get-map}
 use Rattle.std.proofs.lemmas.Slice.Zip.{AllZip-long}
+use Rattle.lists.proofs.Eaches.{each_push}
 use Rattle.text_lines.specs.Words.{is_name_byte, begins_name, is_name}
 use Rattle.text_lines.specs.Names.{number_of, has_name}
 use Rattle.text_lines.specs.Reading.{said}
@@ -33,17 +34,14 @@ use Rattle.session_text.specs.Names.{look, loop_name_by, loop_name, bridge_name_
 use Rattle.session_text.specs.Reading.{is_of, fits_inputs, boxes_of, inputs_of, over, with_line, with_start, add_line, add_start, start_in, read_start, step_in, run_in, attach_in, read_form, read_said, read_line}
 use Rattle.session_text.specs.Fits.{IsInput, IsStart, IsBridgeOf, LineFits, with_start_of, starts_behind, LinesFit, FitsSet}
 use Rattle.session_text.proofs.Firsts.{found_at}
-use Rattle.session_text.proofs.FitStart.{IsKnown, AreKnown, all_more}
+use Rattle.session_text.proofs.FitStart.{IsKnown, AreKnown}
 use Rattle.session_text.proofs.FitForm.{FormFits, said_fits}
-
-both : (a b : Bool) → (a && b) ≡ true → (a ≡ true) × (b ≡ true)
-both true b e = (refl, e)
-both false b e = absurd cc
+use Rattle.text_lines.specs.Laws.{LinesAreSpelled}
 
 -- a name has at most 64 letters
 name-short : (n : List ℕ) → is_name n ≡ true → length n ≤ 64
 unfolding is_name
-name-short n e = leb-true (length n) 64 (both (begins_name n && list_all is_name_byte n) (leb (length n) 64) e).1
+name-short n e = leb-true (length n) 64 (and_parts (begins_name n && list_all is_name_byte n) (leb (length n) 64) e).1
 
 -- ---- one line more
 
@@ -74,8 +72,8 @@ start_fits set s k a h named is few room =
     record {
       lines = lines_more set 0 s.lines l h.lines (h.names, is);
       names = one ∙ ap (λ n. n + 1) h.names ∙ sym (starts_more 0 s.lines l);
-      are_names = all_more (λ n. is_name n ≡ true) s.names a.name h.are_names named;
-      short_names = all_more (λ n. length n ≤ 64) s.names a.name h.short_names (name-short a.name named);
+      are_names = each_push (λ n. is_name n ≡ true) s.names a.name h.are_names named;
+      short_names = each_push (λ n. length n ≤ 64) s.names a.name h.short_names (name-short a.name named);
       few_lines = omega (arith, few, length-append s.lines (l ∷ []));
       few_starts = omega (arith, room, one);
     }
@@ -95,7 +93,7 @@ unfolding fits_inputs
 inputs_are set [] [] e h = tt
 inputs_are set [] (b ∷ bs) e h = absurd cc
 inputs_are set (v ∷ vs) [] e h = absurd cc
-inputs_are set (v ∷ vs) (b ∷ bs) e h = let p = both (is_of v b.kind) (fits_inputs vs bs) e in (input_is set v b b.kind refl p.0 h.0, inputs_are set vs bs p.1 h.1)
+inputs_are set (v ∷ vs) (b ∷ bs) e h = let p = and_parts (is_of v b.kind) (fits_inputs vs bs) e in (input_is set v b b.kind refl p.0 h.0, inputs_are set vs bs p.1 h.1)
 
 -- ---- names
 
@@ -211,6 +209,6 @@ said_by set n s made None h g e = absurd cc
 said_by set n s made (Some None) h g e = let same : s ≡ made = cc in subst (FitsSet set) same h
 said_by set n s made (Some (Some f)) h g e = form_fits set n s made f h (g f refl) e
 
-pub fits_line : (set : TraceSet) (n : ℕ) (l : List ℕ) (s made : SessionText) → FitsSet set s → read_line (names_of set) set n l s ≡ Ok made → FitsSet set made
+pub fits_line : (spelled : LinesAreSpelled) (set : TraceSet) (n : ℕ) (l : List ℕ) (s made : SessionText) → FitsSet set s → read_line (names_of set) set n l s ≡ Ok made → FitsSet set made
 unfolding read_line
-fits_line set n l s made h e = said_by set n s made (said (form_at (names_of set)) l) h (said_fits set l) e
+fits_line spelled set n l s made h e = said_by set n s made (said (form_at (names_of set)) l) h (said_fits spelled set l) e

@@ -2,7 +2,7 @@
 use Rattle.std.proofs.Common.{◌≡◌, ℕ, suc, ◌+◌, ◌<◌, ◌^◌, List, [], ◌∷◌, length, Result, Ok, Err, refl, sym, ap, subst, ◌∙◌, arith}
 use Rattle.std.proofs.lemmas.List.{nil_from_length}
 use Rattle.text_lines.specs.Lines.{lines}
-use Rattle.text_lines.specs.Reading.{read_lines, ok_then}
+use Rattle.lists.specs.Refused.{read_lines, ok_then}
 use Rattle.trace_ops.specs.declared.trace.TraceSet.{TraceSet}
 use Rattle.session_text.specs.declared.fault.SessionFault.{SessionFault}
 use Rattle.session_text.specs.declared.fault.SessionFault.TheVariants as fault
@@ -12,6 +12,7 @@ use Rattle.session_text.specs.Fits.{starts_behind, LinesFit, FitsSet}
 use Rattle.session_text.specs.Names.{Names, names_of}
 use Rattle.session_text.specs.Reading.{nothing, read_line, lines_at}
 use Rattle.session_text.proofs.FitLine.{fits_line}
+use Rattle.text_lines.specs.Laws.{LinesAreSpelled}
 
 -- the rest of the lines, over the session of the earlier ones
 pub record SoFar (set : TraceSet) (total : Result SessionText SessionFault) (n : ℕ) (rest : List ℕ) (s : SessionText) : Type 0 where
@@ -24,13 +25,13 @@ one_line : (set : TraceSet) (n : ℕ) (rest line others : List ℕ) (s : Session
 unfolding read_lines
 one_line set n rest line others s split = rw split refl
 
-pub goes_on : (set : TraceSet) (names : Names) (total : Result SessionText SessionFault) (n : ℕ) (rest line others : List ℕ) (s made : SessionText) → names ≡ names_of set → SoFar set total n rest s
+pub goes_on : (spelled : LinesAreSpelled) (set : TraceSet) (names : Names) (total : Result SessionText SessionFault) (n : ℕ) (rest line others : List ℕ) (s made : SessionText) → names ≡ names_of set → SoFar set total n rest s
     → lines rest ≡ line ∷ lines others → read_line names set n line s ≡ Ok made → SoFar set total (n + 1) others made
-goes_on set names total n rest line others s made are so_far split read =
+goes_on spelled set names total n rest line others s made are so_far split read =
     let e : read_line (names_of set) set n line s ≡ Ok made = subst (λ (x : Names). read_line x set n line s ≡ Ok made) are read in
     let one : n + 1 ≡ suc n = omega arith in
     let go : read_lines (read_line (names_of set) set) n (lines rest) s ≡ read_lines (read_line (names_of set) set) (suc n) (lines others) made = one_line set n rest line others s split ∙ rw e refl in
-    rw one (record { same = sym go ∙ so_far.same; fits = fits_line set n line s made so_far.fits e; room = omega (arith, so_far.room, ap length split) })
+    rw one (record { same = sym go ∙ so_far.same; fits = fits_line spelled set n line s made so_far.fits e; room = omega (arith, so_far.room, ap length split) })
 
 failed : (set : TraceSet) (n : ℕ) (rest line others : List ℕ) (s : SessionText) (f : SessionFault) → lines rest ≡ line ∷ lines others → read_line (names_of set) set n line s ≡ Err f → read_lines (read_line (names_of set) set) n (lines rest) s ≡ Err f
 failed set n rest line others s f split e = one_line set n rest line others s split ∙ rw e refl

@@ -3,13 +3,13 @@ use Rattle.std.proofs.Common.{◌≡◌, ℕ, Bool, true, false, List, [], ◌�
 use Rattle.std.specs.Prelude.{◌||◌, is_none}
 use Rattle.std.specs.List.{list_any}
 use Rattle.std.proofs.lemmas.List.{append-nil}
+use Rattle.std.proofs.lemmas.Bool.{or_parts}
 use Rattle.trace_meaning.specs.declared.value.Value.{Value}
 use Rattle.trace_meaning.specs.declared.call.Give.{Give}
 use Rattle.trace_meaning.specs.declared.call.Answer.{Answer}
 use Rattle.session_text.specs.declared.start.Place.TheVariants as place
 use Rattle.session_text.specs.declared.start.Start.{Start}
 use Rattle.session_text.specs.Start.{input_found, give_or, gives_found, pushed, targeted, store_found}
-use Rattle.session_text.proofs.Binds.{neither}
 use Rattle.session_text.specs.Spelling.{Stored, Reply, stored, reply, store_lacks, reply_lacks}
 
 abbrev pub put_inputs : Start → List (Option Value) → Start
@@ -65,7 +65,7 @@ input-inputs s (Some v) e = map-more Some s.inputs v
 pub put_inputs-inputs : (s : Start) (os : List (Option Value)) → list_any is_none os ≡ false → map Some (put_inputs s os).inputs ≡ map Some s.inputs ++ os
 put_inputs-inputs s [] e = sym (append-nil (map Some s.inputs))
 put_inputs-inputs s (o ∷ os) e =
-    let p = neither (is_none o) (list_any is_none os) e in
+    let p = or_parts (is_none o) (list_any is_none os) e in
     put_inputs-inputs (input_found s o) os p.1 ∙ ap (λ (x : List (Option Value)). x ++ os) (input-inputs s o p.0) ∙ append_assoc (map Some s.inputs) (o ∷ []) os
 
 input-answers : (s : Start) (o : Option Value) → (input_found s o).answers ≡ s.answers
@@ -112,7 +112,7 @@ put_stores-lacks s (x ∷ xs) = put_stores-lacks (put_store s x) xs ∙ ap (λ b
 pub put_stores-stores : (s : Start) (ss : List Stored) → list_any store_lacks ss ≡ false → map stored (put_stores s ss).stores ≡ map stored s.stores ++ ss
 put_stores-stores s [] e = sym (append-nil (map stored s.stores))
 put_stores-stores s (x ∷ xs) e =
-    let p = neither (store_lacks x) (list_any store_lacks xs) e in
+    let p = or_parts (store_lacks x) (list_any store_lacks xs) e in
     put_stores-stores (put_store s x) xs p.1 ∙ ap (λ (y : List Stored). y ++ xs) (store-stores s x p.0) ∙ append_assoc (map stored s.stores) (x ∷ []) xs
 
 store-kept : (s : Start) (x : Stored) → ((put_store s x).inputs ≡ s.inputs) × ((put_store s x).answers ≡ s.answers) × ((put_store s x).gives ≡ s.gives)
@@ -144,7 +144,7 @@ given-is g (Some x) e = refl
 
 replied-answers : (s : Start) (r : Reply) → s.stores ≡ [] → reply_lacks r ≡ false → map reply (replied s r).answers ≡ map reply s.answers ++ r ∷ []
 replied-answers s r none e =
-    let p = neither (is_none r.gives) (list_any store_lacks r.stores) e in
+    let p = or_parts (is_none r.gives) (list_any store_lacks r.stores) e in
     let x : Start = put_stores (gives_found s r.gives) r.stores in
     let last : Answer = record { gives = x.gives; stores = x.stores } in
     let gives : Some x.gives ≡ r.gives = ap Some (put_stores-gives (gives_found s r.gives) r.stores) ∙ given-is s.gives r.gives p.0 in
@@ -163,5 +163,5 @@ put_replies-inputs s (r ∷ rs) = put_replies-inputs (replied s r) rs ∙ put_st
 pub put_replies-answers : (s : Start) (rs : List Reply) → s.stores ≡ [] → list_any reply_lacks rs ≡ false → map reply (put_replies s rs).answers ≡ map reply s.answers ++ rs
 put_replies-answers s [] none e = sym (append-nil (map reply s.answers))
 put_replies-answers s (r ∷ rs) none e =
-    let p = neither (reply_lacks r) (list_any reply_lacks rs) e in
+    let p = or_parts (reply_lacks r) (list_any reply_lacks rs) e in
     put_replies-answers (replied s r) rs refl p.1 ∙ ap (λ (y : List Reply). y ++ rs) (replied-answers s r none p.0) ∙ append_assoc (map reply s.answers) (r ∷ []) rs

@@ -2,6 +2,8 @@
 use Rattle.std.proofs.Common.{◌≡◌, ℕ, zero, suc, ◌<◌, ◌≤◌, false, cond, List, [], ◌∷◌, length, Option, Some, None, refl, sym, ap, subst, ◌∙◌, inl, inr, arith}
 use Rattle.std.specs.Prelude.{codes}
 use Rattle.std.specs.Str.{bytes_eq}
+use Rattle.lists.proofs.Bools.{chosen, bytes_same}
+use Rattle.std.proofs.lemmas.Option.{same_Some}
 use Rattle.text_lines.specs.Words.{is_name}
 use Rattle.trace_meaning.specs.declared.call.Give.{Give}
 use Rattle.trace_meaning.specs.declared.call.Give.TheVariants as give
@@ -11,7 +13,6 @@ use Rattle.session_text.specs.Names.{Names, look}
 use Rattle.session_text.specs.Words.{object_of, give_if, given_of, target_of}
 use Rattle.session_text.specs.Start.{go, expect, gives, gives_found, pushed, end_step, given_step, size_found, targeted, store_by, store_found, stored_by}
 use Rattle.session_text.specs.Spelling.{Stored, SpellsGive, gives_nothing, gives_value, gives_new, gives_named_new, MoreStores, stores_end, one_store, SpellsStores, no_stores, first_store}
-use Rattle.session_text.proofs.Binds.{some_is, chosen, is_key}
 use Rattle.session_text.proofs.Put.{put_stores}
 use Rattle.session_text.proofs.Spelled.{move, store_place, store_past}
 use Rattle.session_text.proofs.ReadStart.{Ended, no_end, one_on, expected, to}
@@ -28,7 +29,7 @@ pub record Target (names : Names) (s : Start) (w : List ℕ) (ws : Words) (m : S
 
 target_by : (names : Names) (s m x : Start) (w : List ℕ) (ws : Words) (o : Option (ℕ × Option ℕ)) → target_of names w ≡ o → store_by s o ≡ Some x → Ended names x ws m → Target names s w ws m
 target_by names s m x w ws None e h i = absurd cc
-target_by names s m x w ws (Some t) e h i = record { t = t; targets = e; ended = to names (targeted s t) x m ws (some_is (targeted s t) x h) i }
+target_by names s m x w ws (Some t) e h i = record { t = t; targets = e; ended = to names (targeted s t) x m ws (same_Some (targeted s t) x h) i }
 
 pub record Equals (names : Names) (s : Start) (ws : Words) (m : Start) : Type 0 where
   pub rest : Words
@@ -52,7 +53,7 @@ pub record Kept (names : Names) (s : Start) (ws : Words) (m : Start) : Type 0 wh
 
 kept_by : (names : Names) (s m x : Start) (w : List ℕ) (ws : Words) (o : Option (Option Give)) → given_of names w ≡ o → stored_by s o ≡ Some x → Ended names x ws m → Kept names s (w ∷ ws) m
 kept_by names s m x w ws None e h i = absurd cc
-kept_by names s m x w ws (Some o) e h i = record { word = w; rest = ws; o = o; parts = refl; value = e; ended = to names (store_found s o) x m ws (some_is (store_found s o) x h) i }
+kept_by names s m x w ws (Some o) e h i = record { word = w; rest = ws; o = o; parts = refl; value = e; ended = to names (store_found s o) x m ws (same_Some (store_found s o) x h) i }
 
 kept : (names : Names) (s m : Start) (ws : Words) → s.place ≡ place.Stored → Ended names s ws m → Kept names s ws m
 kept names s m [] at e = no_end names s m place.Stored at refl e
@@ -118,9 +119,9 @@ more_stores (suc n) names s m (w ∷ ws) le at e =
     let o = one_on names s m place.StoreEnd w ws at e in
     elim (chosen (bytes_eq w (codes ",")) (Some (go s place.Store)) (expect s (codes "}") place.Braced w) (Some o.next) o.steps) [
       | inl h ↦
-          let a = store names s m ws (to names (go s place.Store) o.next m ws (some_is (go s place.Store) o.next h.1) o.ended) in
+          let a = store names s m ws (to names (go s place.Store) o.next m ws (same_Some (go s place.Store) o.next h.1) o.ended) in
           let less : length a.rest ≤ n = omega (arith, le, ap length a.parts) in
-          stored_one names s m w ws (is_key w (codes ",") h.0) a (more_stores n names (store_found (targeted s a.t) a.o) m a.rest less (store_place (targeted s a.t) a.o) a.ended)
+          stored_one names s m w ws (bytes_same w (codes ",") h.0) a (more_stores n names (store_found (targeted s a.t) a.o) m a.rest less (store_place (targeted s a.t) a.o) a.ended)
       | inr h ↦
           let x = expected names s m (codes "}") w ws place.Braced o.next h.1 o.ended in
           record { ss = []; rest = ws; spells = subst (λ (k : List ℕ). MoreStores names (k ∷ ws) [] ws) (sym x.is) stores_end; short = omega arith; ended = x.ended }
@@ -158,8 +159,8 @@ some_stores names s m (w ∷ ws) at e =
     let o = one_on names s m place.Given w ws at e in
     elim (chosen (bytes_eq w (codes "{")) (Some (go s place.Store)) (end_step s w) (Some o.next) o.steps) [
       | inl h ↦
-          let a = store names s m ws (to names (go s place.Store) o.next m ws (some_is (go s place.Store) o.next h.1) o.ended) in
-          in_braces names s m w ws (is_key w (codes "{") h.0) a (more_stores (length a.rest) names (store_found (targeted s a.t) a.o) m a.rest (omega arith) (store_place (targeted s a.t) a.o) a.ended)
+          let a = store names s m ws (to names (go s place.Store) o.next m ws (same_Some (go s place.Store) o.next h.1) o.ended) in
+          in_braces names s m w ws (bytes_same w (codes "{") h.0) a (more_stores (length a.rest) names (store_found (targeted s a.t) a.o) m a.rest (omega arith) (store_place (targeted s a.t) a.o) a.ended)
       | inr h ↦ record { ss = []; word = w; rest = ws; spells = no_stores; short = omega arith; then_ = s; same = refl; next = o.next; steps = h.1; ended = o.ended }
     ]
 
@@ -174,7 +175,7 @@ pub record Given (names : Names) (s : Start) (ws : Words) (m : Start) : Type 0 w
 
 value_given : (names : Names) (s m x : Start) (w : List ℕ) (ws : Words) (o : Option (Option Give)) → bytes_eq w (codes "none") ≡ false → bytes_eq w (codes "new") ≡ false → given_of names w ≡ o → gives (go s place.Answer) o ≡ Some x → Ended names x ws m → Given names s (w ∷ ws) m
 value_given names s m x w ws None a b e h i = absurd cc
-value_given names s m x w ws (Some o) a b e h i = record { g = o; rest = ws; spells = gives_value a b e; short = omega arith; ended = to names (gives_found s o) x m ws (some_is (gives_found s o) x h) i }
+value_given names s m x w ws (Some o) a b e h i = record { g = o; rest = ws; spells = gives_value a b e; short = omega arith; ended = to names (gives_found s o) x m ws (same_Some (gives_found s o) x h) i }
 
 new_given : (names : Names) (s m : Start) (ws : Words) → Ended names (go s place.New) ws m → Given names s (codes "new" ∷ ws) m
 new_given names s m [] e = no_end names (go s place.New) m place.New refl refl e
@@ -183,7 +184,7 @@ new_given names s m (w ∷ ws) e =
     let named : Option Give = give_if (object_of (look (codes "new") names.prebuilts)) in
     let o = one_on names (go s place.New) m place.New w ws refl e in
     elim (chosen (is_name w) (Some (gives_found s size)) (given_step (gives_found s named) w) (Some o.next) o.steps) [
-      | inl h ↦ record { g = size; rest = ws; spells = gives_new h.0; short = omega arith; ended = to names (gives_found s size) o.next m ws (some_is (gives_found s size) o.next h.1) o.ended }
+      | inl h ↦ record { g = size; rest = ws; spells = gives_new h.0; short = omega arith; ended = to names (gives_found s size) o.next m ws (same_Some (gives_found s size) o.next h.1) o.ended }
       | inr h ↦ record { g = named; rest = w ∷ ws; spells = gives_named_new h.0; short = omega arith; ended = record { runs = move names (gives_found s named) o.next place.Given w ws refl h.1 ∙ o.ended.runs; done_ = o.ended.done_ } }
     ]
 
@@ -193,9 +194,9 @@ given names s m (w ∷ ws) e =
     let n = one_on names (go s place.Answer) m place.Answer w ws refl e in
     let new : Option Start = Some (go s place.New) in
     elim (chosen (bytes_eq w (codes "none")) (Some (gives_found s (Some give.Nothing))) (cond (bytes_eq w (codes "new")) new (gives (go s place.Answer) (given_of names w))) (Some n.next) n.steps) [
-      | inl h ↦ record { g = Some give.Nothing; rest = ws; spells = subst (λ (k : List ℕ). SpellsGive names (k ∷ ws) (Some give.Nothing) ws) (sym (is_key w (codes "none") h.0)) gives_nothing; short = omega arith; ended = to names (gives_found s (Some give.Nothing)) n.next m ws (some_is (gives_found s (Some give.Nothing)) n.next h.1) n.ended }
+      | inl h ↦ record { g = Some give.Nothing; rest = ws; spells = subst (λ (k : List ℕ). SpellsGive names (k ∷ ws) (Some give.Nothing) ws) (sym (bytes_same w (codes "none") h.0)) gives_nothing; short = omega arith; ended = to names (gives_found s (Some give.Nothing)) n.next m ws (same_Some (gives_found s (Some give.Nothing)) n.next h.1) n.ended }
       | inr r ↦ elim (chosen (bytes_eq w (codes "new")) new (gives (go s place.Answer) (given_of names w)) (Some n.next) r.1) [
-        | inl h ↦ subst (λ (k : List ℕ). Given names s (k ∷ ws) m) (sym (is_key w (codes "new") h.0)) (new_given names s m ws (to names (go s place.New) n.next m ws (some_is (go s place.New) n.next h.1) n.ended))
+        | inl h ↦ subst (λ (k : List ℕ). Given names s (k ∷ ws) m) (sym (bytes_same w (codes "new") h.0)) (new_given names s m ws (to names (go s place.New) n.next m ws (same_Some (go s place.New) n.next h.1) n.ended))
         | inr h ↦ value_given names s m n.next w ws (given_of names w) r.0 h.0 refl h.1 n.ended
       ]
     ]

@@ -4,7 +4,11 @@ use Rattle.std.specs.Prelude.{codes}
 use Rattle.std.specs.Str.{bytes_eq}
 use Rattle.text_lines.specs.Words.{is_name}
 use Rattle.text_lines.specs.Numbers.{decimal_of}
-use Rattle.text_lines.specs.Reading.{◌>>=◌, name_at, key_at, ended}
+use Rattle.lists.specs.Binds.{◌>>=◌}
+use Rattle.lists.proofs.Options.{bind_some, none_some}
+use Rattle.lists.proofs.Bools.{if_some, chosen, bytes_same}
+use Rattle.std.proofs.lemmas.Option.{same_Some}
+use Rattle.text_lines.specs.Reading.{name_at, key_at, ended}
 use Rattle.trace_meaning.specs.declared.value.Value.{Value}
 use Rattle.trace_meaning.specs.declared.call.Give.{Give}
 use Rattle.session_text.specs.declared.form.Form.{Form}
@@ -15,7 +19,7 @@ use Rattle.session_text.specs.Names.{Names}
 use Rattle.session_text.specs.Start.{begin, go, answer_step, gives_found, pushed, end_step, run, is_done, done, start_at}
 use Rattle.session_text.specs.Form.{number_at, start_line_at, step_at, run_at, attach_at, form_at}
 use Rattle.session_text.specs.Spelling.{Stored, Reply, SpellsInputs, SpellsGive, SpellsStores, MoreAnswers, answers_end, one_answer, SpellsAnswers, no_answers, none_answered, first_answer, SpellsLine}
-use Rattle.session_text.proofs.Binds.{bind_some, guard, some_is, none_some, chosen, is_key, name_takes, ended_takes}
+use Rattle.session_text.proofs.Binds.{name_takes, ended_takes}
 use Rattle.session_text.proofs.Put.{put_inputs, replied, put_replies}
 use Rattle.session_text.proofs.Spelled.{Tells, tells, first_other}
 use Rattle.session_text.proofs.ReadStart.{Ended, no_end, one_on, expected, to, all_inputs}
@@ -54,7 +58,7 @@ pub record IsLast (s : Start) (ws : Words) (m : Start) : Type 0 where
 
 nothing_more : (names : Names) (s m : Start) (ws : Words) → s.place ≡ place.Ended → Ended names s ws m → IsLast s ws m
 unfolding run
-nothing_more names s m [] at e = record { none = refl; same = sym (some_is s m e.runs) }
+nothing_more names s m [] at e = record { none = refl; same = sym (same_Some s m e.runs) }
 nothing_more names s m (w ∷ ws) at e =
     let n = one_on names s m place.Ended w ws at e in
     absurd (none_some n.steps)
@@ -85,11 +89,11 @@ answers_by names x m next w ws others steps e =
     let answer : Option Start = Some (pushed x place.Answer) in
     elim (chosen (bytes_eq w (codes ";")) answer (cond (bytes_eq w (codes ")")) (Some (pushed x place.Ended)) None) (Some next) steps) [
       | inl h ↦
-          let r = reply_read names (pushed x place.Ended) m ws (to names (pushed x place.Answer) next m ws (some_is (pushed x place.Answer) next h.1) e) in
-          one_more names x m w ws (is_key w (codes ";") h.0) r (others r.then_ r.next r.word r.rest r.short r.steps r.ended)
+          let r = reply_read names (pushed x place.Ended) m ws (to names (pushed x place.Answer) next m ws (same_Some (pushed x place.Answer) next h.1) e) in
+          one_more names x m w ws (bytes_same w (codes ";") h.0) r (others r.then_ r.next r.word r.rest r.short r.steps r.ended)
       | inr h ↦
-          let g = guard (bytes_eq w (codes ")")) (pushed x place.Ended) next h.1 in
-          last_one names x m w ws (is_key w (codes ")") g.0) (nothing_more names (pushed x place.Ended) m ws refl (to names (pushed x place.Ended) next m ws g.1 e))
+          let g = if_some (bytes_eq w (codes ")")) (pushed x place.Ended) next h.1 in
+          last_one names x m w ws (bytes_same w (codes ")") g.0) (nothing_more names (pushed x place.Ended) m ws refl (to names (pushed x place.Ended) next m ws g.1 e))
     ]
 
 more_answers : (n : ℕ) (names : Names) (x m next : Start) (w : List ℕ) (ws : Words) → length ws ≤ n → end_step x w ≡ Some next → Ended names next ws m → Answers names x (w ∷ ws) m
@@ -142,7 +146,7 @@ listed names s m [] e = no_end names (go s place.FirstAnswer) m place.FirstAnswe
 listed names s m (w ∷ ws) e =
     let n = one_on names (go s place.FirstAnswer) m place.FirstAnswer w ws refl e in
     elim (chosen (bytes_eq w (codes ")")) (Some (go s place.Ended)) (answer_step names (go s place.FirstAnswer) w) (Some n.next) n.steps) [
-      | inl h ↦ none_listed names s m w ws (is_key w (codes ")") h.0) (nothing_more names (go s place.Ended) m ws refl (to names (go s place.Ended) n.next m ws (some_is (go s place.Ended) n.next h.1) n.ended))
+      | inl h ↦ none_listed names s m w ws (bytes_same w (codes ")") h.0) (nothing_more names (go s place.Ended) m ws refl (to names (go s place.Ended) n.next m ws (same_Some (go s place.Ended) n.next h.1) n.ended))
       | inr h ↦ some_listed names s m (w ∷ ws) (record { runs = sym (first_other names s w ws h.0) ∙ e.runs; done_ = e.done_ })
     ]
 
@@ -156,7 +160,7 @@ opened names s m (w ∷ ws) e =
 all_answers : (names : Names) (s m : Start) (rest : Words) → s.place ≡ place.Closed → Ended names s rest m → AllAnswers names s rest m
 unfolding run
 all_answers names s m [] at e =
-    let same : m ≡ s = sym (some_is s m e.runs) in
+    let same : m ≡ s = sym (same_Some s m e.runs) in
     record { rs = []; spells = no_answers; lacks = ap (λ (y : Start). y.lacks) same; inputs = ap (λ (y : Start). y.inputs) same; answers = ap (λ (y : Start). y.answers) same }
 all_answers names s m (w ∷ ws) at e =
     let n = one_on names s m place.Closed w ws at e in
@@ -180,7 +184,7 @@ start_spelled : (names : Names) (ws : Words) (m : Start) → start_at names ws �
 unfolding start_at
 start_spelled names ws m e =
     let a = bind_some (run names begin ws) done m e in
-    let g = guard (is_done a.0.place) a.0 m a.2 in
+    let g = if_some (is_done a.0.place) a.0 m a.2 in
     let is : Ended names begin ws m = record { runs = a.1 ∙ ap (λ (x : Start). Some x) g.1; done_ = ap (λ (x : Start). is_done x.place) (sym g.1) ∙ g.0 } in
     let i = all_inputs names begin m ws refl is in
     let s : Start = go (put_inputs begin i.os) place.Closed in
@@ -193,8 +197,8 @@ key_takes : (key : List ℕ) (ws rest : Words) → key_at key ws ≡ Some rest �
 unfolding key_at
 key_takes key [] rest e = absurd cc
 key_takes key (w ∷ ws) rest e =
-    let g = guard (bytes_eq w key) ws rest e in
-    let same : w ≡ key = is_key w key g.0 in
+    let g = if_some (bytes_eq w key) ws rest e in
+    let same : w ≡ key = bytes_same w key g.0 in
     rw (same, g.1) refl
 
 number_takes : (limit n : ℕ) (ws : Words) → number_at limit ws ≡ Some n → (w : List ℕ) × (ws ≡ w ∷ []) × (decimal_of limit w ≡ Some n)
@@ -216,7 +220,7 @@ step_takes names ws f e =
     let n = name_takes ws a.0 a.1 in
     let w = number_takes (10 ^ 7) b.0 a.0.1 b.1 in
     let parts : codes "step" ∷ ws ≡ codes "step" ∷ a.0.0 ∷ w.0 ∷ [] = ap (λ (x : Words). codes "step" ∷ x) (n.0 ∙ ap (λ (x : Words). a.0.0 ∷ x) w.1) in
-    subst (Takes names (codes "step") ws) (some_is (form.Step a.0.0 b.0) f b.2) (w.0, parts, n.1, w.2)
+    subst (Takes names (codes "step") ws) (same_Some (form.Step a.0.0 b.0) f b.2) (w.0, parts, n.1, w.2)
 
 run_takes : (names : Names) (ws : Words) (f : Form) → run_at ws ≡ Some f → Takes names (codes "run") ws f
 unfolding run_at
@@ -226,7 +230,7 @@ run_takes names ws f e =
     let n = name_takes ws a.0 a.1 in
     let w = number_takes (10 ^ 6) b.0 a.0.1 b.1 in
     let parts : codes "run" ∷ ws ≡ codes "run" ∷ a.0.0 ∷ w.0 ∷ [] = ap (λ (x : Words). codes "run" ∷ x) (n.0 ∙ ap (λ (x : Words). a.0.0 ∷ x) w.1) in
-    subst (Takes names (codes "run") ws) (some_is (form.Run a.0.0 b.0) f b.2) (w.0, parts, n.1, w.2)
+    subst (Takes names (codes "run") ws) (same_Some (form.Run a.0.0 b.0) f b.2) (w.0, parts, n.1, w.2)
 
 attach_takes : (names : Names) (ws : Words) (f : Form) → attach_at ws ≡ Some f → Takes names (codes "attach") ws f
 unfolding attach_at
@@ -255,7 +259,7 @@ start_takes names ws f e =
     let o = name_takes a.0.1 b.0 b.1 in
     let k = key_takes (codes "(") b.0.1 d.0 d.1 in
     let parts : codes "start" ∷ ws ≡ codes "start" ∷ a.0.0 ∷ b.0.0 ∷ codes "(" ∷ d.0 = ap (λ (x : Words). codes "start" ∷ x) (n.0 ∙ ap (λ (x : Words). a.0.0 ∷ x) (o.0 ∙ ap (λ (x : Words). b.0.0 ∷ x) k)) in
-    subst (Takes names (codes "start") ws) (some_is (made a.0.0 b.0.0 g.0) f g.2) (start_made names ws d.0 a.0.0 b.0.0 g.0 parts n.1 o.1 (start_spelled names d.0 g.0 g.1))
+    subst (Takes names (codes "start") ws) (same_Some (made a.0.0 b.0.0 g.0) f g.2) (start_made names ws d.0 a.0.0 b.0.0 g.0 parts n.1 o.1 (start_spelled names d.0 g.0 g.1))
 
 abbrev Reads : Names → List ℕ → Words → Option Form → Type 0
 Reads names k ws o = (f : Form) → o ≡ Some f → Takes names k ws f
@@ -263,7 +267,7 @@ Reads names k ws o = (f : Form) → o ≡ Some f → Takes names k ws f
 keyed : (names : Names) (k key : List ℕ) (ws : Words) (x y : Option Form) → Reads names key ws x → Reads names k ws y → Reads names k ws (cond (bytes_eq k key) x y)
 keyed names k key ws x y h i f e =
     elim (chosen (bytes_eq k key) x y (Some f) e) [
-      | inl c ↦ subst (λ (w : List ℕ). Takes names w ws f) (sym (is_key k key c.0)) (h f c.1)
+      | inl c ↦ subst (λ (w : List ℕ). Takes names w ws f) (sym (bytes_same k key c.0)) (h f c.1)
       | inr c ↦ i f c.1
     ]
 

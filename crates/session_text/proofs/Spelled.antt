@@ -5,7 +5,10 @@ use Rattle.std.specs.List.{list_any}
 use Rattle.std.specs.Str.{bytes_eq}
 use Rattle.text_lines.specs.Words.{is_letter, is_name}
 use Rattle.text_lines.specs.Numbers.{decimal_behind, decimal_of, integer_of}
-use Rattle.text_lines.specs.Reading.{◌>>=◌}
+use Rattle.lists.specs.Binds.{◌>>=◌}
+use Rattle.lists.proofs.Options.{none_some}
+use Rattle.lists.proofs.Bools.{bytes_same}
+use Rattle.std.proofs.lemmas.Bool.{or_parts}
 use Rattle.trace_meaning.specs.declared.value.Value.{Value}
 use Rattle.trace_meaning.specs.declared.call.Answer.{Answer}
 use Rattle.trace_meaning.specs.declared.call.Give.{Give}
@@ -17,7 +20,6 @@ use Rattle.session_text.specs.Names.{Names, look}
 use Rattle.session_text.specs.Words.{object_of, value_of, arg_of, give_if, given_or, given_of}
 use Rattle.session_text.specs.Start.{begin, go, input_found, input_by, first_step, gives, gives_found, answer_step, pushed, size_found, targeted, store_by, store_found, stored_by, step_at, run, is_done, done, start_at}
 use Rattle.session_text.specs.Spelling.{Stored, Reply, reply, reply_lacks, lacks_any, MoreInputs, inputs_end, one_input, SpellsInputs, no_inputs, first_input, SpellsGive, gives_nothing, gives_value, gives_new, gives_named_new, MoreStores, stores_end, one_store, SpellsStores, no_stores, first_store, MoreAnswers, answers_end, one_answer, SpellsAnswers, no_answers, none_answered, first_answer}
-use Rattle.session_text.proofs.Binds.{none_some, neither, is_key}
 use Rattle.session_text.proofs.Steps.{run_step}
 use Rattle.session_text.proofs.Put.{put_inputs, put_inputs-lacks, put_inputs-inputs, put_inputs-answers, put_inputs-stores, put_stores, replied, put_replies, put_replies-lacks, put_replies-inputs, put_replies-answers}
 
@@ -56,7 +58,7 @@ given_closes names = ap (given_or None) (value_closes names)
 
 apart_by : {X : Type 0} (b : Bool) (f : List ℕ → Option X) (w : List ℕ) (x : X) → bytes_eq w (codes ")") ≡ b → f (codes ")") ≡ None → f w ≡ Some x → b ≡ false
 apart_by true f w x e none is =
-    let same : w ≡ codes ")" = is_key w (codes ")") e in
+    let same : w ≡ codes ")" = bytes_same w (codes ")") e in
     absurd (none_some (sym none ∙ ap f (sym same) ∙ is))
 apart_by false f w x e none is = refl
 
@@ -253,8 +255,8 @@ tells m os rs s is l i a =
     let all : m.lacks ≡ lacks_any os rs = l ∙ put_replies-lacks s rs ∙ ap (λ b. b || list_any reply_lacks rs) none in
     record {
       lacks = all;
-      inputs = λ e. let p = neither (list_any is_none os) (list_any reply_lacks rs) (sym all ∙ e) in ap (λ (x : List Value). map Some x) (i ∙ put_replies-inputs s rs ∙ inputs_are) ∙ put_inputs-inputs begin os p.0;
-      answers = λ e. let p = neither (list_any is_none os) (list_any reply_lacks rs) (sym all ∙ e) in ap (λ (x : List Answer). map reply x) a ∙ put_replies-answers s rs stores_are p.1 ∙ ap (λ (x : List Answer). map reply x ++ rs) answers_are;
+      inputs = λ e. let p = or_parts (list_any is_none os) (list_any reply_lacks rs) (sym all ∙ e) in ap (λ (x : List Value). map Some x) (i ∙ put_replies-inputs s rs ∙ inputs_are) ∙ put_inputs-inputs begin os p.0;
+      answers = λ e. let p = or_parts (list_any is_none os) (list_any reply_lacks rs) (sym all ∙ e) in ap (λ (x : List Answer). map reply x) a ∙ put_replies-answers s rs stores_are p.1 ∙ ap (λ (x : List Answer). map reply x ++ rs) answers_are;
     }
 
 pub record IsRead (names : Names) (ws : Words) (os : List (Option Value)) (rs : List Reply) : Type 0 where

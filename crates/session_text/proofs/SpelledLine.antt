@@ -1,6 +1,7 @@
 -- A line that is spelled so is read.
 use Rattle.std.proofs.Common.{◌≡◌, ℕ, ◌^◌, true, false, List, [], ◌∷◌, map, Some, refl, sym, ap, ◌∙◌}
 use Rattle.std.specs.Prelude.{codes}
+use Rattle.std.proofs.lemmas.Option.{same_Some}
 use Rattle.text_lines.specs.Words.{is_name}
 use Rattle.text_lines.specs.Numbers.{decimal_of}
 use Rattle.text_lines.specs.Reading.{name_at, key_at}
@@ -14,7 +15,6 @@ use Rattle.session_text.specs.Names.{Names}
 use Rattle.session_text.specs.Start.{start_at}
 use Rattle.session_text.specs.Form.{number_at, start_line_at, step_at, run_at, attach_at, form_at}
 use Rattle.session_text.specs.Spelling.{Reply, Stored, stored, reply, SpellsStart, SpellsLine, IsSame}
-use Rattle.session_text.proofs.Binds.{some_is}
 use Rattle.session_text.proofs.Spelled.{start_read}
 
 -- ---- what is said stands for one thing
@@ -40,13 +40,13 @@ map-one f one (x ∷ xs) (y ∷ ys) e =
 store_one : (s t : AnswerStore) → stored s ≡ stored t → s ≡ t
 store_one s t e =
     let a : s.arg ≡ t.arg = ap (λ (x : Stored). x.arg) e in
-    let b : s.field ≡ t.field = some_is s.field t.field (ap (λ (x : Stored). x.field) e) in
-    let d : s.value ≡ t.value = some_is s.value t.value (ap (λ (x : Stored). x.value) e) in
+    let b : s.field ≡ t.field = same_Some s.field t.field (ap (λ (x : Stored). x.field) e) in
+    let d : s.value ≡ t.value = same_Some s.value t.value (ap (λ (x : Stored). x.value) e) in
     λ i. record { arg = a i; field = b i; value = d i }
 
 answer_one : (a b : Answer) → reply a ≡ reply b → a ≡ b
 answer_one a b e =
-    let g : a.gives ≡ b.gives = some_is a.gives b.gives (ap (λ (x : Reply). x.gives) e) in
+    let g : a.gives ≡ b.gives = same_Some a.gives b.gives (ap (λ (x : Reply). x.gives) e) in
     let s : a.stores ≡ b.stores = map-one stored store_one a.stores b.stores (ap (λ (x : Reply). x.stores) e) in
     λ i. record { gives = g i; stores = s i }
 
@@ -76,7 +76,7 @@ start_same names ws a s =
     let r = start_read names s.inner s.rest s.inputs s.answers s.spells_inputs s.spells_answers in
     let m : Start = r.made in
     let lacks : a.lacks ≡ m.lacks = s.says.lacks ∙ sym r.says.lacks in
-    let inputs : a.lacks ≡ false → a.inputs ≡ m.inputs = λ e. map-one (λ x. Some x) some_is a.inputs m.inputs (s.says.inputs e ∙ sym (r.says.inputs (sym lacks ∙ e))) in
+    let inputs : a.lacks ≡ false → a.inputs ≡ m.inputs = λ e. map-one (λ x. Some x) same_Some a.inputs m.inputs (s.says.inputs e ∙ sym (r.says.inputs (sym lacks ∙ e))) in
     let answers : a.lacks ≡ false → a.answers ≡ m.answers = λ e. map-one reply answer_one a.answers m.answers (s.says.answers e ∙ sym (r.says.answers (sym lacks ∙ e))) in
     (form.Start (record { name = a.name; of = a.of; lacks = m.lacks; inputs = m.inputs; answers = m.answers }), ap (form_at names) s.parts ∙ start_line names a.name a.of s.inner m s.named s.of_named r.read, (refl, refl, lacks, λ e. (inputs e, answers e)))
 

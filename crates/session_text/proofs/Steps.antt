@@ -1,6 +1,6 @@
 -- One word of a start after the other.
 use Rattle.std.proofs.Common.{◌≡◌, ℕ, Bool, true, false, List, [], ◌∷◌, Option, Some, None, refl, sym, ap, subst, ◌∙◌}
-use Rattle.text_lines.specs.Reading.{◌>>=◌}
+use Rattle.lists.specs.Binds.{◌>>=◌}
 use Rattle.session_text.specs.declared.start.Start.{Start}
 use Rattle.session_text.specs.Names.{Names}
 use Rattle.session_text.specs.Start.{Moved, begin, step, run, is_done, done, start_at}

@@ -2,7 +2,8 @@
 use Rattle.std.specs.Prelude.{ℕ, ◌^◌, Option, Some, None, List, codes, if◌then◌else◌}
 use Rattle.std.specs.Str.{bytes_eq}
 use Rattle.text_lines.specs.Numbers.{decimal_of}
-use Rattle.text_lines.specs.Reading.{◌>>=◌, word_at, name_at, key_at, ended}
+use Rattle.lists.specs.Binds.{◌>>=◌}
+use Rattle.text_lines.specs.Reading.{word_at, name_at, key_at, ended}
 use Rattle.session_text.specs.declared.form.Form.{Form}
 use Rattle.session_text.specs.declared.form.Form.TheVariants as form
 use Rattle.session_text.specs.Names.{Names}

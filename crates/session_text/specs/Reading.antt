@@ -2,7 +2,8 @@
 use Rattle.std.specs.Prelude.{◌≡◌, ℕ, Bool, true, false, ◌&&◌, ◌+◌, Option, Some, None, Result, Ok, Err, List, [], ◌∷◌, ◌++◌, length, nat_lt, nat_le, slice_get, if◌then◌else◌}
 use Rattle.text_lines.specs.Lines.{lines}
 use Rattle.text_lines.specs.Names.{number_of, has_name}
-use Rattle.text_lines.specs.Reading.{said, read_lines}
+use Rattle.lists.specs.Refused.{read_lines}
+use Rattle.text_lines.specs.Reading.{said}
 use Rattle.trace_ops.specs.declared.trace.BoxId.{BoxId}
 use Rattle.trace_ops.specs.declared.trace.Kind.{Kind}
 use Rattle.trace_ops.specs.declared.trace.Kind.TheVariants as kind

@@ -2,7 +2,7 @@
 
 ghost use Rattle.std.specs.Prelude.{◌≡◌, ℕ, List, Some, Err, map};
 ghost use Rattle.text_lines.specs.Lines.{lines};
-ghost use Rattle.text_lines.specs.FirstBad.{IsFirstBad};
+ghost use Rattle.lists.specs.Refused.{IsFirstBad};
 ghost use Rattle.trace_ops.specs.declared.trace.TraceSet.{TraceSet};
 ghost use Rattle.session_text.specs.declared.fault.SessionFault.{SessionFault};
 ghost use Rattle.session_text.specs.declared.form.Form.{Form};

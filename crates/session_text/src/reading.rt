@@ -13,7 +13,7 @@ use crate::form::{Activation, Form, said};
 use crate::lexicon::Lexicon;
 use crate::session::{Line, SessionText};
 use std::alloc::Global;
-use text_lines::next_line;
+use text_lines::{lines_are_spelled, next_line};
 use trace_meaning::Value;
 use trace_ops::{BoxId, Kind, List, Text, TraceSet, What};
 
@@ -286,6 +286,7 @@ fn read_all(
     ensures read { Gives result (session_at set.now first_line text.now) }
     ensures fits { IfOk result (λ s. FitsSet set.now s) }
 {
+    lines_are_spelled();
     let mut session = nothing(alloc);
     let mut number = first_line;
     let mut rest = text;

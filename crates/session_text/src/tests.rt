@@ -5,6 +5,7 @@ ghost use Rattle.std.specs.Prelude.{◌≤◌, length};
 use crate::{Line, Reason, SessionFault, read_session, session_of};
 use std::alloc::{AllocError, Global};
 use std::test::*;
+use text_lines::lines_are_few;
 use trace_meaning::{Answer, AnswerStore, Give, Value};
 use trace_ops::{
     BoxId, FieldRow, Kind, List, Origin, PrebuiltRow, ShapeOf, SizeRow, Table, Text, Trace,
@@ -137,6 +138,7 @@ fn started(
 
 // Whether a text, whose first line has the number 100, is read as these lines.
 fn reads_as(alloc: Global, text: &[u8], want: &[Line]) -> Result<bool, AllocError> {
+    lines_are_few();
     if text.len() > 100000 {
         return Ok(false);
     }
@@ -149,6 +151,7 @@ fn reads_as(alloc: Global, text: &[u8], want: &[Line]) -> Result<bool, AllocErro
 
 // How a text is refused, its first line having the number 100.
 fn refused(alloc: Global, text: &[u8]) -> Result<Option<SessionFault>, AllocError> {
+    lines_are_few();
     if text.len() > 100000 {
         return Ok(None);
     }
@@ -303,6 +306,7 @@ fn activations_are_numbered_by_their_starts(rt: HostRuntime) -> Result<(), Fail>
 }
 
 fn are_named(alloc: Global, text: &[u8], first: &[u8], second: &[u8]) -> Result<bool, AllocError> {
+    lines_are_few();
     if text.len() > 100000 {
         return Ok(false);
     }

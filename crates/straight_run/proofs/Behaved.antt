@@ -10,7 +10,7 @@ use Rattle.trace_ops.specs.declared.trace.Op.{Op}
 use Rattle.trace_ops.specs.declared.trace.Trace.{Trace}
 use Rattle.trace_ops.specs.declared.trace.TraceSet.{TraceSet}
 use Rattle.trace_ops.specs.Words.{IsWord}
-use Rattle.opt_meaning.specs.Step.{Finishes, opt_run}
+use Rattle.opt_meaning.specs.StraightStep.{Finishes, opt_run}
 use Rattle.trace_meaning.specs.declared.call.Answer.{Answer}
 use Rattle.trace_meaning.specs.declared.state.RecState.TheVariants as state
 use Rattle.trace_meaning.specs.declared.value.Value.{Value}
@@ -46,7 +46,7 @@ use Rattle.straight_run.proofs.Recorded.{bound_more, run_over, run_finishes}
 use Rattle.straight_run.proofs.Placed.{place_in, uses_below, are_apart, have_words, piece_straight, finish_at}
 use Rattle.straight_run.proofs.Cited.{Cited}
 use Rattle.straight_run.proofs.Laid.{sizes_some, length-bytes, sizes_cut, front_large, body_small, boxes_may, have_rows, whole_small, laid}
-use Rattle.straight_run.proofs.Running.{run_returns, run_is}
+use Rattle.straight_run.proofs.Running.{run_is}
 use Rattle.straight_run.proofs.Started.{holds_input, start_fit}
 
 -- ---- the recorded run
@@ -252,7 +252,7 @@ ends_with law set number trace image inputs given m g e long =
         last = f.t;
         turn = Stopped Returned;
         starts = starts own inputs;
-        runs = run_returns image.code f.path s f.t m f.along f.returned (omega (arith, few, long));
+        runs = law.stop image.code f.path s f.t f.t m Returned f.along f.returned (omega (arith, few, long));
         state = refl;
         counts = refl;
       };

@@ -11,7 +11,7 @@ use Rattle.trace_ops.specs.declared.table.Table.{Table}
 use Rattle.trace_ops.specs.declared.trace.Trace.{Trace}
 use Rattle.guard_exit.specs.Codes.{common_code}
 use Rattle.x64_encode.specs.declared.instr.Instr.{Instr}
-use Rattle.x64_encode.specs.declared.place.Place.{Place}
+use Rattle.target_base.specs.declared.place.Place.{Place}
 use Rattle.x64_encode.specs.Form.{spelling}
 use Rattle.asm_select.specs.Slots.{Slot, puts, instr_of, instrs_of, sizes_of, bytes_of, unset, HaveRows}
 use Rattle.asm_select.specs.Chosen.{all_code}

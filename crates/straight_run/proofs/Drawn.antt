@@ -13,8 +13,8 @@ use Rattle.trace_ops.specs.contracts.trace.BoxIdPartialEq.TheImpl as box_eq
 use Rattle.trace_ops.specs.Folds.{integer_arity}
 use Rattle.trace_ops.proofs.Same.{box_decides}
 use Rattle.x64_encode.specs.declared.instr.Instr.{Instr}
-use Rattle.x64_encode.specs.declared.place.Place.{Place}
-use Rattle.x64_encode.specs.declared.place.Place.TheVariants.{Word}
+use Rattle.target_base.specs.declared.place.Place.{Place}
+use Rattle.target_base.specs.declared.place.Place.TheVariants.{Word}
 use Rattle.x64_encode.specs.Form.{HasRow, spelling}
 use Rattle.asm_select.specs.Slots.{puts, bytes_of, unset, HaveRows}
 use Rattle.straight_run.specs.Straight.{IsNew, IsStraightFrom, number_in, piece_op, piece_ops}

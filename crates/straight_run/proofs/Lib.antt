@@ -9,7 +9,6 @@ pub mod Running
 pub mod Started
 pub mod Behaved
 pub mod Drawn
-pub mod Counting
 pub mod Stepping
 pub mod Tried
 pub mod Tested

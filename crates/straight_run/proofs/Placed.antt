@@ -24,11 +24,11 @@ use Rattle.trace_ops.specs.declared.facts.Part.TheVariants as part
 use Rattle.trace_ops.specs.Facts.{takes_of, cites_of, part_of}
 use Rattle.trace_ops.specs.Folds.{words_taken, integer_arity}
 use Rattle.trace_ops.specs.Pieces.{args_of, finished}
-use Rattle.opt_meaning.specs.Step.{IsInteger}
-use Rattle.opt_meaning.specs.Step as step
-use Rattle.x64_encode.specs.declared.instr.Reg.{Reg}
-use Rattle.x64_encode.specs.declared.place.Place.{Place}
-use Rattle.x64_encode.specs.declared.place.Place.TheVariants.{In, Word}
+use Rattle.opt_meaning.specs.StraightStep.{IsInteger}
+use Rattle.opt_meaning.specs.StraightStep as step
+use Rattle.target_base.specs.declared.reg.Reg.{Reg}
+use Rattle.target_base.specs.declared.place.Place.{Place}
+use Rattle.target_base.specs.declared.place.Place.TheVariants.{In, Word}
 use Rattle.asm_select.specs.Valued.{MayHold}
 use Rattle.asm_select.specs.Given.{where_in, IsIn, AreIn}
 use Rattle.asm_select.specs.Reached.{IsUse, IsUsedIn, Uses, IsApart, AreApart, IsWordArg, HasWords}

@@ -21,8 +21,8 @@ use Rattle.trace_ops.specs.Facts.{part_of}
 use Rattle.trace_ops.specs.Folds.{integer_arity, word_of}
 use Rattle.trace_ops.specs.contracts.trace.BoxIdPartialEq.TheImpl as box_eq
 use Rattle.trace_ops.proofs.Same.{box_decides}
-use Rattle.opt_meaning.specs.Boxes.{Env, value_of, with_box}
-use Rattle.opt_meaning.specs.Step.{Stepped, Finishes, given, finished_with, go_on, opt_run}
+use Rattle.opt_meaning.specs.StraightBoxes.{Env, value_of, with_box}
+use Rattle.opt_meaning.specs.StraightStep.{Stepped, Finishes, given, finished_with, go_on, opt_run}
 use Rattle.trace_meaning.specs.declared.value.Value.{Value}
 use Rattle.trace_meaning.specs.declared.value.Value.TheVariants as v
 use Rattle.trace_meaning.specs.Boxes.{value_in, bind, arg_value, all_values, with_first, same_box}

@@ -33,7 +33,7 @@ use Rattle.trace_ops.specs.Lawful.{AreDistinct}
 use Rattle.trace_ops.specs.Parts.{boxes_of_arg}
 use Rattle.trace_ops.specs.Rules.{AreTaken, TakesItsArguments, GivesItsKind, ends, boxes_in}
 use Rattle.trace_ops.specs.WellFormed.{IsWellFormed}
-use Rattle.opt_meaning.specs.Step.{IsInteger}
+use Rattle.opt_meaning.specs.StraightStep.{IsInteger}
 use Rattle.straight_run.specs.Straight.{IsScoped, IsNew, IsWordOp, AreShown, IsFinishOp, IsStraightFrom}
 use Rattle.straight_run.specs.Layout.{AreNew, IsStraightLoop}
 use Rattle.straight_run.specs.OnlyWords.{IsOfWords, IsLoopOfWords, HasOnlyWords, WellFormedSetsAreStraight}

@@ -5,8 +5,8 @@ use Rattle.std.proofs.lemmas.Bool.{cases_lt}
 use Rattle.std.proofs.lemmas.List.{length-append, length-replicate, get_or-append-add, get_or_append_left}
 use Rattle.std.proofs.lemmas.List.Elements.{All-nil, All-cons, All-append, All-replicate, All-get_or}
 use Rattle.trace_ops.specs.Words.{IsWord}
-use Rattle.x64_encode.specs.declared.place.Place.{Place}
-use Rattle.x64_encode.specs.declared.place.Place.TheVariants.{In, Word}
+use Rattle.target_base.specs.declared.place.Place.{Place}
+use Rattle.target_base.specs.declared.place.Place.TheVariants.{In, Word}
 use Rattle.x64_machine.specs.State.{State}
 use Rattle.x64_machine.specs.Start.{zeros, first_regs, first_frame, IsStart}
 use Rattle.asm_select.specs.Valued.{value, IsFit}

@@ -8,9 +8,9 @@ use Rattle.trace_ops.specs.declared.trace.Op.{Op}
 use Rattle.trace_ops.specs.declared.trace.Origin.TheVariants.{Loop}
 use Rattle.trace_ops.specs.declared.trace.Trace.{Trace}
 use Rattle.trace_ops.specs.declared.trace.TraceSet.{TraceSet}
-use Rattle.opt_meaning.specs.Step as step
-use Rattle.x64_encode.specs.declared.place.Place.{Place}
-use Rattle.x64_encode.specs.declared.place.Place.TheVariants.{Word}
+use Rattle.opt_meaning.specs.StraightStep as step
+use Rattle.target_base.specs.declared.place.Place.{Place}
+use Rattle.target_base.specs.declared.place.Place.TheVariants.{Word}
 use Rattle.guard_exit.specs.Codes.{stub_code, common_code}
 use Rattle.asm_select.specs.Slots.{Slot, puts, sizes_of, bytes_of, unset, HaveRows}
 use Rattle.asm_select.specs.Chosen.{all_code}

@@ -12,7 +12,7 @@ use Rattle.trace_ops.specs.declared.trace.TraceSet.{TraceSet}
 use Rattle.trace_ops.specs.Folds.{integer_arity}
 use Rattle.trace_ops.specs.InRange.{IsInRange}
 use Rattle.trace_ops.specs.WellFormed.{IsWellFormed}
-use Rattle.opt_meaning.specs.Step.{IsInteger}
+use Rattle.opt_meaning.specs.StraightStep.{IsInteger}
 use Rattle.straight_run.specs.Layout.{AreStraight}
 
 -- a finish or a pure operation of integers

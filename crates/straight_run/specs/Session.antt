@@ -6,9 +6,9 @@ use Rattle.x64_machine.specs.declared.state.Stop.{Stop}
 use Rattle.x64_machine.specs.declared.state.Stop.TheVariants.{Returned, HostCall, BadAddress, BadCode, UndefinedFlag}
 use Rattle.x64_machine.specs.declared.state.Turn.{Turn}
 use Rattle.x64_machine.specs.declared.state.Turn.TheVariants.{Went, Stopped}
+use Rattle.x64_machine.specs.Running.{Runs}
 use Rattle.x64_machine.specs.Start.{IsStart}
-use Rattle.x64_machine.specs.State.{State, Acted, acted, reg, counts_of}
-use Rattle.x64_machine.specs.Step.{MachineStep}
+use Rattle.x64_machine.specs.State.{State, acted, reg, counts_of}
 use Rattle.asm_select.specs.Given.{where_in}
 use Rattle.asm_select.specs.Exited.{read_exit}
 use Rattle.straight_run.specs.declared.image.Image.{Image}
@@ -41,16 +41,6 @@ stopped image s (UndefinedFlag at) = Wrong at
 abbrev pub now_at : Image → State → Turn → Now
 now_at image s Went = Going
 now_at image s (Stopped stop) = stopped image s stop
-
--- a machine that has stopped stays so, and another one goes on
-abbrev pub GoesOn : Turn → State → (State → Acted → Type 0) → Acted → Type 0
-GoesOn Went s next done = next s done
-GoesOn (Stopped stop) s next done = done ≡ acted (Stopped stop) s
-
--- at most m steps on the code lead from a machine to another, which has stopped or has gone on
-abbrev pub Runs : List ℕ → ℕ → State → Acted → Type 0
-Runs code zero s done = done ≡ acted Went s
-Runs code (suc m) s done = (turn : Turn) × (t : State) × MachineStep code s (acted turn t) × GoesOn turn t (Runs code m) done
 
 -- the machine before the loop's first instruction: an arena of a mebibyte, none of it taken, and the inputs in the frame
 abbrev pub Starts : LoopImage → List ℤ → State → Type 0

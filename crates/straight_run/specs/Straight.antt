@@ -15,8 +15,8 @@ use Rattle.trace_ops.specs.declared.piece.OptOp.TheVariants as opt
 use Rattle.trace_ops.specs.contracts.trace.BoxIdPartialEq.TheImpl as box_eq
 use Rattle.trace_ops.specs.Words.{IsWord}
 use Rattle.trace_ops.specs.Folds.{integer_arity}
-use Rattle.opt_meaning.specs.Boxes.{Env}
-use Rattle.opt_meaning.specs.Step.{Finishes, opt_run}
+use Rattle.opt_meaning.specs.StraightBoxes.{Env}
+use Rattle.opt_meaning.specs.StraightStep.{Finishes, opt_run}
 use Rattle.trace_meaning.specs.declared.value.Value.{Value}
 use Rattle.trace_meaning.specs.declared.value.Value.TheVariants as v
 use Rattle.trace_meaning.specs.Legs as leg

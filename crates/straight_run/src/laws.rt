@@ -9,7 +9,8 @@ use asm_select::{
     slots_stand,
 };
 use opt_meaning::straight_pieces_finish;
-use x64_encode::{one_instruction, spellings_are_short};
+use x64_encode::spellings_are_short;
+use x64_machine::{runs_compose, steps_have_one_outcome};
 
 /// A straight trace, run for as many operations as it has, finishes as its piece does.
 pub fn recorded_run_finishes()
@@ -32,7 +33,8 @@ pub fn images_behave()
     chosen_are_short();
     slots_stand();
     spellings_are_short();
-    one_instruction();
+    steps_have_one_outcome();
+    runs_compose();
     straight_pieces_finish();
 }
 
@@ -47,7 +49,8 @@ pub fn images_are_whole()
     slots_stand();
     slots_are_whole();
     spellings_are_short();
-    one_instruction();
+    steps_have_one_outcome();
+    runs_compose();
     straight_pieces_finish();
 }
 
@@ -61,6 +64,7 @@ pub(crate) fn code_has_rows()
     chosen_are_short();
     slots_stand();
     spellings_are_short();
-    one_instruction();
+    steps_have_one_outcome();
+    runs_compose();
     straight_pieces_finish();
 }

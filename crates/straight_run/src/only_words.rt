@@ -3,7 +3,7 @@
 
 ghost use Rattle.std.specs.Prelude.{◌≡◌, ◌↔◌, IsTrue};
 ghost use Rattle.std.specs.List.{All};
-ghost use Rattle.opt_meaning.specs.Step.{IsInteger};
+ghost use Rattle.opt_meaning.specs.StraightStep.{IsInteger};
 ghost use Rattle.straight_run.specs.OnlyWords.{IsWordCode, IsOfWords, IsLoopOfWords, HasOnlyWords};
 
 use crate::checking::arity;

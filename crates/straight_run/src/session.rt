@@ -6,13 +6,14 @@ ghost use Rattle.x64_machine.specs.State.{acted};
 ghost use Rattle.asm_select.specs.Chosen.{operand_of};
 ghost use Rattle.asm_select.specs.Given.{where_in};
 ghost use Rattle.asm_select.specs.Exited.{saved_at, read_saved};
-ghost use Rattle.straight_run.specs.Session.{Runs, IsActivation, now_at, stopped, returned, value_shown};
+ghost use Rattle.x64_machine.specs.Running.{Runs};
+ghost use Rattle.straight_run.specs.Session.{IsActivation, now_at, stopped, returned, value_shown};
 
 use crate::image::{Image, LoopImage};
 use std::alloc::{AllocError, Global};
 use trace_ops::{Arg, Word};
 use x64_encode::{Fetch, Place, PlainCode, Reg};
-use x64_machine::{Counts64, Machine, Stop, Turn};
+use x64_machine::{Counts64, Machine, Stop, Turn, instructions_are_counted, runs_compose};
 
 const ARENA_BYTES: u64 = 1_048_576;
 
@@ -61,6 +62,8 @@ fn run_for<C: Fetch>(machine: &mut Machine, code: &C, budget: u64) -> Turn
     requires { machine.old.instructions + budget < 2 ^ 63 }
     ensures { Runs (C.code code.now) budget machine.old (acted result machine.new) }
 {
+    instructions_are_counted();
+    runs_compose();
     for _ in 0..budget {
         match machine.step(code) {
             Turn::Went => {}

@@ -2,7 +2,7 @@
 use Rattle.std.proofs.Common.{◌≡◌, ℕ, Bool, true, false, cond, eqb, List, [], ◌∷◌, ◌++◌, refl, sym, ap, ◌∙◌, inl, inr, ◌⊎◌}
 use Rattle.std.specs.Prelude.{◌||◌, ◌&&◌, not, filter}
 use Rattle.std.specs.List.{AllByRecursion, flat_map, list_all}
-use Rattle.std.proofs.lemmas.Bool.{and_from, eqb-true}
+use Rattle.std.proofs.lemmas.Bool.{and_from, and_parts, eqb-true}
 use Rattle.text_lines.specs.Lines.{in_front, lines}
 use Rattle.text_lines.specs.Words.{words, is_mark, is_word_byte, begins_word}
 use Rattle.text_lines.specs.Cut.{joined, HasNoFeed, IsToken}
@@ -87,10 +87,6 @@ unfolding words
 words_keep [] = refl
 words_keep (c ∷ cs) = keep_by (eqb c 32) (is_word_byte c && begins_word cs) c (words cs) (filter (λ x. not (eqb x 32)) cs) (words_keep cs)
 
-both : (a b : Bool) → (a && b) ≡ true → (a ≡ true) × (b ≡ true)
-both true b e = (refl, e)
-both false b e = absurd cc
-
 -- the first word has bytes of a word
 abbrev BeginsWith : List (List ℕ) → Type 0
 BeginsWith [] = ⊥
@@ -125,7 +121,7 @@ token_in_front c (w ∷ ws) e b h = (inl (and_from (is_word_byte c) (list_all is
 
 tokens_by : (a b : Bool) (c : ℕ) (cs : List ℕ) → eqb c 32 ≡ a → (is_word_byte c && begins_word cs) ≡ b → AllByRecursion IsToken (words cs) → AllByRecursion IsToken (cond a (words cs) (cond b (in_front c (words cs)) ((c ∷ []) ∷ words cs)))
 tokens_by true b c cs s e h = h
-tokens_by false true c cs s e h = let p = both (is_word_byte c) (begins_word cs) e in token_in_front c (words cs) p.0 (words_begin cs p.1) h
+tokens_by false true c cs s e h = let p = and_parts (is_word_byte c) (begins_word cs) e in token_in_front c (words cs) p.0 (words_begin cs p.1) h
 tokens_by false false c cs s e h = (alone_by (is_word_byte c) c refl s, h)
 
 pub words_are_tokens : (line : List ℕ) → AllByRecursion IsToken (words line)

@@ -12,10 +12,13 @@ use Rattle.std.proofs.lemmas.Fmt.{decimal_is_IsNumeral}
 use Rattle.std.proofs.lemmas.Str.Parse.{digit_from_value}
 use Rattle.std.proofs.lemmas.Str.{digit_value_digit}
 use lib.Signed.{mag}
+use Rattle.lists.proofs.Tests.{list_all_weaker}
 use Rattle.text_lines.specs.Words.{is_digit, is_mark, is_word_byte, is_letter, is_name}
-use Rattle.text_lines.specs.Reading.{◌>>=◌}
+use Rattle.lists.specs.Binds.{◌>>=◌}
+use Rattle.text_lines.specs.Laws.{WordsAreSpelled}
 use Rattle.text_lines.specs.Numbers.{value_behind, decimal_behind, decimal_of, integer_of}
 use Rattle.text_lines.specs.Written.{IsWord}
+use Rattle.text_lines.proofs.Written.{name_is_word}
 
 -- ---- what is read is in range
 
@@ -24,7 +27,7 @@ behind_limit true true limit v n h e = let is : v ≡ n = cc in omega (arith, le
 behind_limit true false limit v n h e = absurd cc
 behind_limit false b limit v n h e = absurd cc
 
-decimal_limit : (limit : ℕ) (word : List ℕ) (n : ℕ) → decimal_of limit word ≡ Some n → n ≤ limit
+pub decimal_limit : (limit : ℕ) (word : List ℕ) (n : ℕ) → decimal_of limit word ≡ Some n → n ≤ limit
 unfolding decimal_of decimal_behind
 decimal_limit limit [] n e = absurd cc
 decimal_limit limit (c ∷ cs) n e = behind_limit (list_all is_digit (c ∷ cs)) (leb (value_behind 0 (c ∷ cs)) limit) limit (value_behind 0 (c ∷ cs)) n refl e
@@ -108,14 +111,6 @@ digit_in_word c h = grind (arith, nat_tests)
 digit_is_plain : (c : ℕ) → is_digit c ≡ true → (leb 32 c && leb c 126) ≡ true
 digit_is_plain c h = grind (arith, nat_tests)
 
-both : (a b : Bool) → (a && b) ≡ true → (a ≡ true) × (b ≡ true)
-both true b e = (refl, e)
-both false b e = absurd cc
-
-all_weaker : (p q : ℕ → Bool) → ((c : ℕ) → p c ≡ true → q c ≡ true) → (xs : List ℕ) → list_all p xs ≡ true → list_all q xs ≡ true
-all_weaker p q f [] h = refl
-all_weaker p q f (x ∷ xs) h = let e = both (p x) (list_all p xs) h in and_from (q x) (list_all q xs) (f x e.0) (all_weaker p q f xs e.1)
-
 minus_in_word : is_word_byte 45 ≡ true
 unfolding is_word_byte is_mark
 minus_in_word = refl
@@ -124,7 +119,7 @@ decimal_is_word : (n : ℕ) → n < 2 ^ 64 → IsWord (decimal n)
 decimal_is_word n small =
     let d = decimal_is_IsNumeral n small in
     let digits = digits_are (decimal n) d.0.1 in
-    record { some = d.0.0; bytes = all_weaker is_digit is_word_byte digit_in_word (decimal n) digits; plain = all_weaker is_digit (λ c. leb 32 c && leb c 126) digit_is_plain (decimal n) digits }
+    record { some = d.0.0; bytes = list_all_weaker is_digit is_word_byte digit_in_word (decimal n) digits; plain = list_all_weaker is_digit (λ c. leb 32 c && leb c 126) digit_is_plain (decimal n) digits }
 
 pub integer_is_word : (z : ℤ) → mag z < 2 ^ 63 → IsWord (signed_decimal z)
 integer_is_word (pos n) h = decimal_is_word n (omega arith)
@@ -146,3 +141,15 @@ pub integer_no_name : (z : ℤ) → mag z < 2 ^ 63 → is_name (signed_decimal z
 unfolding is_name is_letter
 integer_no_name (pos n) h = let d = decimal_is_IsNumeral n (omega arith) in digits_no_name (decimal n) d.0.0 d.0.1
 integer_no_name (negsuc n) h = refl
+
+pub words_spell : WordsAreSpelled
+words_spell = record {
+  name_is_word = name_is_word;
+  integer_is_word = λ z h. integer_is_word z h.sfits;
+  integer_no_name = λ z h. integer_no_name z h.sfits;
+  integer_again = λ z h. integer_again z h.sfits;
+  integer_fits = λ word z e. record { sfits = integer_ranged word z e };
+  decimal_again = decimal_again;
+  decimal_limit = decimal_limit;
+  digits_are = digits_are;
+}

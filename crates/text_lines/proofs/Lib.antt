@@ -2,7 +2,6 @@ pub mod LineLaws
 pub mod WordLaws
 pub mod Written
 pub mod Digits
-pub mod FirstBadLaws
 pub mod Integers
 pub mod Pieces
 pub mod CutLaws

@@ -3,16 +3,13 @@ use Rattle.std.proofs.Common.{◌≡◌, ℕ, true, false, eqb, leb, List, [], �
 use Rattle.std.proofs.lemmas.List.{append-nil}
 use Rattle.std.proofs.lemmas.Bool.Decides.{nat_tests}
 use Rattle.std.specs.Prelude.{◌||◌, ◌&&◌, not}
+use Rattle.lists.proofs.Tests.{list_all_append}
 use Rattle.text_lines.specs.Words.{words, is_mark, is_word_byte, begins_word, is_plain}
 use Rattle.text_lines.specs.Written.{IsWord}
+use Rattle.text_lines.specs.Laws.{Says, PiecesSayWords}
+use Rattle.text_lines.proofs.CutLaws.{lines_joined}
 use Rattle.text_lines.proofs.WordLaws.{alone}
-use Rattle.text_lines.proofs.Written.{words_word, list_all-append}
-
--- the words that a piece of a line says, whatever stands behind it that begins no word; it begins no word itself
-pub record Says (text : List ℕ) (ws : List (List ℕ)) : Type 0 where
-  pub words_are : (rest : List ℕ) → begins_word rest ≡ false → words (text ++ rest) ≡ ws ++ words rest
-  pub apart : (rest : List ℕ) → begins_word rest ≡ false → begins_word (text ++ rest) ≡ false
-  pub plain : is_plain text ≡ true
+use Rattle.text_lines.proofs.Written.{words_word, line_then_feed}
 
 pub says_nothing : Says [] []
 says_nothing = record { words_are = λ rest e. refl; apart = λ rest e. e; plain = refl }
@@ -21,7 +18,7 @@ pub says_both : (a b : List ℕ) (u v : List (List ℕ)) → Says a u → Says b
 says_both a b u v h i = record {
   words_are = λ rest e. ap words (append_assoc a b rest) ∙ h.words_are (b ++ rest) (i.apart rest e) ∙ ap (λ (x : List (List ℕ)). u ++ x) (i.words_are rest e) ∙ sym (append_assoc u v (words rest));
   apart = λ rest e. ap begins_word (append_assoc a b rest) ∙ h.apart (b ++ rest) (i.apart rest e);
-  plain = list_all-append (λ c. leb 32 c && leb c 126) a b h.plain i.plain;
+  plain = list_all_append (λ c. leb 32 c && leb c 126) a b h.plain i.plain;
 }
 
 -- a word that has a space in front
@@ -89,4 +86,20 @@ line_says w text ws h i =
     word_behind w text h begins ∙ ap (λ (x : List (List ℕ)). w ∷ x) (sym (ap words all) ∙ i.words_are [] refl ∙ append-nil ws)
 
 pub line_plain : (w text : List ℕ) (ws : List (List ℕ)) → IsWord w → Says text ws → is_plain (w ++ text) ≡ true
-line_plain w text ws h i = list_all-append (λ c. leb 32 c && leb c 126) w text h.plain i.plain
+line_plain w text ws h i = list_all_append (λ c. leb 32 c && leb c 126) w text h.plain i.plain
+
+pub pieces_say : PiecesSayWords
+pieces_say = record {
+  word_behind = word_behind;
+  alone = alone;
+  says_nothing = says_nothing;
+  says_both = says_both;
+  says_space = says_space;
+  says_word = says_word;
+  says_mark = says_mark;
+  says_mark_word = says_mark_word;
+  line_says = line_says;
+  line_plain = line_plain;
+  line_then_feed = line_then_feed;
+  lines_joined = lines_joined;
+}

@@ -1,10 +1,11 @@
 -- The first word of a line.
-use Rattle.std.proofs.Common.{◌≡◌, ℕ, suc, ◌+◌, ◌<◌, ◌≤◌, Bool, true, false, cond, eqb, List, [], ◌∷◌, length, take, drop, get_or, refl, sym, ap, subst, ◌∙◌, arith, inl, inr, length-drop}
+use Rattle.std.proofs.Common.{◌≡◌, ℕ, suc, ◌<◌, ◌≤◌, Bool, true, false, cond, eqb, List, [], ◌∷◌, length, take, drop, get_or, refl, sym, ap, subst, ◌∙◌, arith, inl, inr, length-drop}
 use Rattle.std.proofs.lemmas.List.{nil_from_length}
 use Rattle.std.specs.Prelude.{◌||◌, ◌&&◌, not, position, unwrap_or}
 use Rattle.std.specs.List.{position_or_len}
 use Rattle.std.proofs.lemmas.Bool.{cases_lt, lt-ltb, le-ltb}
 use Rattle.std.proofs.lemmas.List.Sums.{prefix_len-le-length}
+use Rattle.lists.proofs.Numbers.{one_more}
 use Rattle.text_lines.specs.Lines.{in_front}
 use Rattle.text_lines.specs.Words.{words, is_mark, is_word_byte, begins_word, after_spaces, word_len}
 
@@ -23,13 +24,10 @@ spaces line = position_or_len (λ c. not (eqb c 32)) line
 abbrev run : List ℕ → ℕ
 run line = position_or_len (λ c. not (is_word_byte c)) line
 
-more : (n : ℕ) → 1 + n ≡ suc n
-more n = omega arith
-
 spaces_step : (b : Bool) (c : ℕ) (cs : List ℕ) → eqb c 32 ≡ b → words (after_spaces cs) ≡ words cs → words (after_spaces (c ∷ cs)) ≡ words (c ∷ cs)
 unfolding words
 spaces_step true c cs e h =
-    let k : spaces (c ∷ cs) ≡ suc (spaces cs) = rw e (more (spaces cs)) in
+    let k : spaces (c ∷ cs) ≡ suc (spaces cs) = rw e (one_more (spaces cs)) in
     let w : words cs ≡ words (c ∷ cs) = rw e refl in
     ap (λ n. words (drop n (c ∷ cs))) k ∙ h ∙ w
 spaces_step false c cs e h =
@@ -46,7 +44,7 @@ NoSpace line = 0 < length line → eqb (get_or line 0 0) 32 ≡ false
 
 no_space_step : (b : Bool) (c : ℕ) (cs : List ℕ) → eqb c 32 ≡ b → NoSpace (after_spaces cs) → NoSpace (after_spaces (c ∷ cs))
 no_space_step true c cs e h =
-    let k : spaces (c ∷ cs) ≡ suc (spaces cs) = rw e (more (spaces cs)) in
+    let k : spaces (c ∷ cs) ≡ suc (spaces cs) = rw e (one_more (spaces cs)) in
     subst (λ (n : ℕ). NoSpace (drop n (c ∷ cs))) (sym k) h
 no_space_step false c cs e h =
     let k : spaces (c ∷ cs) ≡ 0 = rw e refl in
@@ -61,7 +59,7 @@ abbrev Splits : ℕ → List ℕ → Type 0
 Splits n line = words line ≡ take n line ∷ words (drop n line)
 
 run_one : (c : ℕ) (cs : List ℕ) → is_word_byte c ≡ true → run (c ∷ cs) ≡ suc (run cs)
-run_one c cs is = rw is (more (run cs))
+run_one c cs is = rw is (one_more (run cs))
 
 run_none : (c : ℕ) (cs : List ℕ) → is_word_byte c ≡ false → run (c ∷ cs) ≡ 0
 run_none c cs is = rw is refl

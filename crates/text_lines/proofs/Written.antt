@@ -1,26 +1,24 @@
 -- What was written is read again.
-use Rattle.std.proofs.Common.{◌≡◌, ℕ, Bool, true, false, eqb, leb, List, [], ◌∷◌, ◌++◌, length, refl, sym, ap, ◌∙◌, arith}
+use Rattle.std.proofs.Common.{◌≡◌, ℕ, true, false, eqb, leb, List, [], ◌∷◌, ◌++◌, length, refl, sym, ap, ◌∙◌, arith}
 use Rattle.std.proofs.lemmas.List.{append-nil}
 use Rattle.std.specs.Prelude.{◌&&◌}
 use Rattle.std.specs.List.{list_all, AllByRecursion}
+use Rattle.std.proofs.lemmas.Bool.{and_parts}
 use Rattle.std.proofs.lemmas.Bool.Decides.{nat_tests}
 use Rattle.text_lines.specs.Lines.{in_front, lines}
 use Rattle.text_lines.specs.Words.{words, is_mark, is_word_byte, is_letter, is_name_byte, begins_word, is_name, is_plain}
 use Rattle.text_lines.specs.Written.{spaced, IsWord}
+use Rattle.lists.proofs.Tests.{list_all_append, list_all_weaker}
 use Rattle.text_lines.proofs.WordLaws.{alone, joined, no_space_in_word}
-
-both : (a b : Bool) → (a && b) ≡ true → (a ≡ true) × (b ≡ true)
-both true b e = (refl, e)
-both false b e = absurd cc
 
 pub words_word : (c : ℕ) (cs rest : List ℕ) → list_all is_word_byte (c ∷ cs) ≡ true → begins_word rest ≡ false → words ((c ∷ cs) ++ rest) ≡ (c ∷ cs) ∷ words rest
 words_word c [] rest h e =
-    let p = both (is_word_byte c) true h in
+    let p = and_parts (is_word_byte c) true h in
     let no : (is_word_byte c && begins_word rest) ≡ false = rw (p.0, e) refl in
     alone c rest (no_space_in_word c p.0) no
 words_word c (d ∷ ds) rest h e =
-    let p = both (is_word_byte c) (list_all is_word_byte (d ∷ ds)) h in
-    let q = both (is_word_byte d) (list_all is_word_byte ds) p.1 in
+    let p = and_parts (is_word_byte c) (list_all is_word_byte (d ∷ ds)) h in
+    let q = and_parts (is_word_byte d) (list_all is_word_byte ds) p.1 in
     let yes : (is_word_byte c && is_word_byte d) ≡ true = rw (p.0, q.0) refl in
     joined c ((d ∷ ds) ++ rest) (no_space_in_word c p.0) yes ∙ ap (in_front c) (words_word d ds rest p.1 e)
 
@@ -44,17 +42,10 @@ words_spaced [] h = refl
 words_spaced (w ∷ []) h = ap words (append-nil w) ∙ word_alone w h.0
 words_spaced (w ∷ v ∷ ws) h = word_then_space w (spaced (v ∷ ws)) h.0 ∙ ap (λ (x : List (List ℕ)). w ∷ x) (words_spaced (v ∷ ws) h.1)
 
-pub list_all-append : (p : ℕ → Bool) (xs ys : List ℕ) → list_all p xs ≡ true → list_all p ys ≡ true → list_all p (xs ++ ys) ≡ true
-list_all-append p [] ys a b = b
-list_all-append p (x ∷ xs) ys a b =
-    let h = both (p x) (list_all p xs) a in
-    let rest : list_all p (xs ++ ys) ≡ true = list_all-append p xs ys h.1 b in
-    rw (h.0, rest) refl
-
 pub plain_spaced : (ws : List (List ℕ)) → AllByRecursion IsWord ws → is_plain (spaced ws) ≡ true
 plain_spaced [] h = refl
 plain_spaced (w ∷ []) h = ap is_plain (append-nil w) ∙ h.0.plain
-plain_spaced (w ∷ v ∷ ws) h = list_all-append (λ c. leb 32 c && leb c 126) w (32 ∷ spaced (v ∷ ws)) h.0.plain (plain_spaced (v ∷ ws) h.1)
+plain_spaced (w ∷ v ∷ ws) h = list_all_append (λ c. leb 32 c && leb c 126) w (32 ∷ spaced (v ∷ ws)) h.0.plain (plain_spaced (v ∷ ws) h.1)
 
 -- a plain line has no line feed
 plain_byte : (c : ℕ) → (leb 32 c && leb c 126) ≡ true → eqb c 10 ≡ false
@@ -64,7 +55,7 @@ pub line_then_feed : (line rest : List ℕ) → is_plain line ≡ true → lines
 unfolding lines
 line_then_feed [] rest h = refl
 line_then_feed (c ∷ cs) rest h =
-    let p = both (leb 32 c && leb c 126) (is_plain cs) h in
+    let p = and_parts (leb 32 c && leb c 126) (is_plain cs) h in
     let none : eqb c 10 ≡ false = plain_byte c p.0 in
     rw none (ap (in_front c) (line_then_feed cs rest p.1))
 
@@ -76,22 +67,14 @@ name_byte_is_plain : (c : ℕ) → is_name_byte c ≡ true → (leb 32 c && leb 
 unfolding is_name_byte is_letter
 name_byte_is_plain c h = grind (arith, nat_tests)
 
-all_weaker : (p q : ℕ → Bool) → ((c : ℕ) → p c ≡ true → q c ≡ true) → (xs : List ℕ) → list_all p xs ≡ true → list_all q xs ≡ true
-all_weaker p q f [] h = refl
-all_weaker p q f (x ∷ xs) h =
-    let e = both (p x) (list_all p xs) h in
-    let one : q x ≡ true = f x e.0 in
-    let rest : list_all q xs ≡ true = all_weaker p q f xs e.1 in
-    rw (one, rest) refl
-
 pub name_is_word : (n : List ℕ) → is_name n ≡ true → IsWord n
 unfolding is_name
 name_is_word [] h = absurd cc
 name_is_word (c ∷ cs) h =
-    let a = both (is_letter c && list_all is_name_byte (c ∷ cs)) (leb (length (c ∷ cs)) 64) h in
-    let b = both (is_letter c) (list_all is_name_byte (c ∷ cs)) a.0 in
+    let a = and_parts (is_letter c && list_all is_name_byte (c ∷ cs)) (leb (length (c ∷ cs)) 64) h in
+    let b = and_parts (is_letter c) (list_all is_name_byte (c ∷ cs)) a.0 in
     record {
       some = omega arith;
-      bytes = all_weaker is_name_byte is_word_byte name_byte_is_word (c ∷ cs) b.1;
-      plain = all_weaker is_name_byte (λ c. leb 32 c && leb c 126) name_byte_is_plain (c ∷ cs) b.1;
+      bytes = list_all_weaker is_name_byte is_word_byte name_byte_is_word (c ∷ cs) b.1;
+      plain = list_all_weaker is_name_byte (λ c. leb 32 c && leb c 126) name_byte_is_plain (c ∷ cs) b.1;
     }

@@ -4,5 +4,5 @@ pub mod Reading
 pub mod Numbers
 pub mod Names
 pub mod Written
-pub mod FirstBad
 pub mod Cut
+pub mod Laws

@@ -4,7 +4,7 @@ use Rattle.std.specs.List.{list_all}
 use Rattle.text_lines.specs.declared.number.Letter.{Letter}
 use Rattle.text_lines.specs.declared.number.Letter.TheVariants.{Int, Ref, Float}
 use Rattle.text_lines.specs.Words.{is_digit}
-use Rattle.text_lines.specs.Reading.{◌>>=◌}
+use Rattle.lists.specs.Binds.{◌>>=◌}
 
 -- the number that the digits stand for behind those of n
 abbrev pub value_behind : ℕ → List ℕ → ℕ

@@ -1,12 +1,8 @@
 -- Reading the words of a line from left to right.
-use Rattle.std.specs.Prelude.{◌≡◌, ℕ, Bool, true, false, Option, Some, None, Result, Ok, Err, suc, slice_index, ◌==◌, List, [], ◌∷◌, if◌then◌else◌}
+use Rattle.std.specs.Prelude.{◌≡◌, ℕ, Bool, true, false, Option, Some, None, slice_index, ◌==◌, List, [], ◌∷◌, if◌then◌else◌}
 use Rattle.std.specs.Str.{bytes_eq}
+use Rattle.lists.specs.Binds.{◌>>=◌}
 use Rattle.text_lines.specs.Words.{is_name, is_plain, words}
-
-infixl 10 ◌>>=◌
-abbrev pub ◌>>=◌ : {A B : Type 0} → Option A → (A → Option B) → Option B
-None >>= f = None
-(Some x) >>= f = f x
 
 -- What a function returned, seen by view, is what reading gives.
 abbrev pub Gives : {X Y : Type 0} → (X → Y) → Option X → Option Y → Type 0
@@ -51,13 +47,3 @@ said form line = if is_plain line then (if is_skipped (words line) then Some Non
 abbrev pub first_of : {R : Type 0} → List (Bool × R) → Option R
 first_of [] = None
 first_of ((b, r) ∷ more) = if b then Some r else first_of more
-
--- what an Ok leads to
-abbrev pub ok_then : {S T F : Type 0} → Result S F → (S → Result T F) → Result T F
-ok_then (Ok x) f = f x
-ok_then (Err e) f = Err e
-
--- The lines are read in order, each over what the earlier ones made, and the first that is refused decides.
-unfoldable pub read_lines : {S F : Type 0} → (ℕ → List ℕ → S → Result S F) → ℕ → List (List ℕ) → S → Result S F
-read_lines read n [] s = Ok s
-read_lines read n (l ∷ ls) s = ok_then (read n l s) (λ made. read_lines read (suc n) ls made)

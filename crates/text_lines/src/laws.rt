@@ -6,6 +6,7 @@ ghost use Rattle.std.specs.List.{AllByRecursion, flat_map};
 ghost use Rattle.std.specs.Int.{w64};
 ghost use Rattle.std.specs.Int.RustNames.{FitsSigned};
 ghost use Rattle.text_lines.specs.Cut.{joined, HasNoFeed, IsToken};
+ghost use Rattle.text_lines.specs.Laws.{LinesAreFew, LinesAreSpelled};
 ghost use Rattle.text_lines.specs.Lines.{lines};
 ghost use Rattle.text_lines.specs.Numbers.{integer_of};
 ghost use Rattle.text_lines.specs.Words.{is_name, is_plain, words};
@@ -28,4 +29,15 @@ pub fn text_laws()
     ensures words_again { (ws : List (List ℕ)) → AllByRecursion IsWord ws → words (spaced ws) ≡ ws }
     ensures plain { (ws : List (List ℕ)) → AllByRecursion IsWord ws → is_plain (spaced ws) ≡ true }
     ensures line_again { (line rest : List ℕ) → is_plain line ≡ true → lines (line ++ 10 ∷ rest) ≡ line ∷ lines rest }
+{}
+
+/// A text has at most as many lines as bytes.
+pub fn lines_are_few()
+    ensures { LinesAreFew }
+{}
+
+/// For a caller that reads: integers are words of 64 bits and decimal numbers keep their limit; for one that writes:
+/// names and numbers are words, numbers are read back, and lines that are put together of pieces say their words.
+pub fn lines_are_spelled()
+    ensures { LinesAreSpelled }
 {}

@@ -9,7 +9,7 @@ mod reading;
 mod word;
 mod writing;
 
-pub use laws::text_laws;
+pub use laws::{lines_are_few, lines_are_spelled, text_laws};
 pub use line::next_line;
 pub use names::Names;
 pub use number::{Letter, box_of, decimal_of, integer_of, put_integer};

@@ -2,10 +2,6 @@
 use Rattle.std.proofs.Common.{◌≡◌, ℕ, List, ◌++◌, ap, ◌∙◌, append_assoc}
 use Rattle.std.specs.Prelude.{Result, Ok, Err, OnOk}
 
-pub on_ok : {T E : Type 0} (r : Result T E) (P Q : Type 0) → (P → Q) → OnOk r P → OnOk r Q
-on_ok (Ok x) P Q f h = f h
-on_ok (Err e) P Q f h = tt
-
 pub joined3 : (o o1 o2 o3 a b c : List ℕ) → o1 ≡ o ++ a → o2 ≡ o1 ++ b → o3 ≡ o2 ++ c → o3 ≡ o ++ (a ++ (b ++ c))
 joined3 o o1 o2 o3 a b c e1 e2 e3 =
     e3 ∙ ap (λ x. x ++ c) (e2 ∙ ap (λ x. x ++ b) e1 ∙ append_assoc o a b) ∙ append_assoc o (a ++ b) c ∙ ap (λ x. o ++ x) (append_assoc a b c)

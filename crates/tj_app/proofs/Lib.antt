@@ -4,3 +4,4 @@ pub mod OneStart
 pub mod SeenLines
 pub mod Ready
 pub mod Answerable
+pub mod HexLines

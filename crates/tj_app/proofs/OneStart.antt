@@ -2,11 +2,12 @@
 use Rattle.std.proofs.Common.{◌≡◌, ℕ, ◌+◌, ◌<◌, ◌≤◌, true, false, Some, List, [], ◌∷◌, length, refl, sym, ap, subst, ◌∙◌, arith}
 use Rattle.std.specs.Prelude.{◌==◌, Bool, not, slice_get}
 use Rattle.std.specs.List.{All, AllZip, list_any}
-use Rattle.std.proofs.lemmas.Bool.{true≢false}
+use Rattle.std.proofs.lemmas.Bool.{true≢false, or_parts}
 use Rattle.std.proofs.lemmas.Bool.{eqb-true}
 use Rattle.std.proofs.lemmas.List.Elements.{All-nil, All-cons, All-get_or}
 use Rattle.std.proofs.lemmas.Option.{slice_get_within, get_or_from_slice_get}
 use Rattle.std.proofs.lemmas.Slice.Zip.{AllZip-long}
+use Rattle.lists.proofs.Alls.{all_at}
 use Rattle.trace_ops.specs.declared.trace.Trace.{Trace}
 use Rattle.trace_ops.specs.declared.trace.TraceSet.{TraceSet}
 use Rattle.trace_meaning.specs.declared.value.Value.{Value}
@@ -19,10 +20,7 @@ use Rattle.tj_app.specs.declared.unbuilt.Unbuilt.TheVariants as un
 use Rattle.tj_app.specs.Unbuilt.{line_needs}
 use Rattle.tj_app.specs.Session.{AreRuns, IsBrief}
 use Rattle.tj_app.specs.Running.{IsStart, IsOne}
-use Rattle.tj_app.proofs.OnlyBuilt.{or_false, NeedsNothing}
-
-All-slice_get : {X : Type 0} (P : X → Type 0) (xs : List X) (k : ℕ) (x : X) → All P xs → slice_get xs k ≡ Some x → P x
-All-slice_get P xs k x all e = subst P (get_or_from_slice_get xs k x x e) (All-get_or P xs k x (slice_get_within xs k x e) all)
+use Rattle.tj_app.proofs.OnlyBuilt.{NeedsNothing}
 
 -- starts are only added
 starts_grow : (k : ℕ) (ls : List Line) → k ≤ starts_behind k ls
@@ -59,7 +57,7 @@ record Lines (set : TraceSet) (ls : List Line) : Type 0 where
 
 few_inputs : (set : TraceSet) (t : ℕ) (of : Trace) (vs : List Value) → AreStraight set → slice_get set.traces t ≡ Some of → AllZip (IsInput set) vs of.inputs → length vs ≤ 64
 few_inputs set t of vs straight at h =
-    let few : length of.inputs ≤ 64 = (All-slice_get IsStraightLoop set.traces t of straight at).straight.few_inputs in
+    let few : length of.inputs ≤ 64 = (all_at IsStraightLoop set.traces t of straight at).straight.few_inputs in
     omega (arith, few, AllZip-long (IsInput set) vs of.inputs h)
 
 -- a session of lines that fit, with one start, and no step or attachment
@@ -90,7 +88,7 @@ single (name ∷ other ∷ more) e = absurd (omega (arith, e))
 
 pub one_start : (set : TraceSet) (s : SessionText) → AreStraight set → FitsSet set s → NeedsNothing set s → IsOne (length set.traces) s
 one_start set s straight fits h =
-    let n : length s.names ≡ 1 = one_of (length s.names == 1) (length s.names) refl (or_false (not (length s.names == 1)) (list_any (line_needs un.Activations) s.lines) h.activations).0 in
+    let n : length s.names ≡ 1 = one_of (length s.names == 1) (length s.names) refl (or_parts (not (length s.names == 1)) (list_any (line_needs un.Activations) s.lines) h.activations).0 in
     let lines = lines_of set s.lines straight fits.lines (sym fits.names ∙ n) h.step h.attach in
     let name = single s.names n in
     record {

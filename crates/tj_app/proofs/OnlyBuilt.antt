@@ -2,7 +2,7 @@
 use Rattle.std.proofs.Common.{◌≡◌, ◌⊎◌, ℕ, Bool, true, false, Option, Some, None, List, [], ◌∷◌, refl, ap, ◌∙◌, sym, inl, inr}
 use Rattle.std.specs.Prelude.{◌||◌, find, if◌then◌else◌}
 use Rattle.std.specs.List.{All, list_any}
-use Rattle.std.proofs.lemmas.Bool.{true≢false}
+use Rattle.std.proofs.lemmas.Bool.{true≢false, or_parts}
 use Rattle.std.proofs.lemmas.List.Elements.{All-nil, All-cons, All-head, All-tail}
 use Rattle.trace_ops.specs.declared.code.OpCode.{OpCode}
 use Rattle.trace_ops.specs.declared.code.OpCode.TheVariants as code
@@ -18,8 +18,8 @@ use Rattle.trace_ops.specs.declared.trace.Trace.{Trace}
 use Rattle.trace_ops.specs.declared.trace.TraceSet.{TraceSet}
 use Rattle.trace_ops.specs.Facts.{takes_of, cites_of, part_of}
 use Rattle.trace_ops.specs.Classes.{guarding, overflowing, called, is_guard, is_overflowing, is_call}
-use Rattle.trace_text.specs.Constants.{IsWordArg, HasWords}
-use Rattle.opt_meaning.specs.Step.{IsInteger}
+use Rattle.trace_ops.specs.Constants.{ArgHasWord, HasWords}
+use Rattle.opt_meaning.specs.StraightStep.{IsInteger}
 use Rattle.straight_run.specs.OnlyWords.{IsWordCode, IsOfWords, IsLoopOfWords, HasOnlyWords}
 use Rattle.session_text.specs.declared.session.SessionText.{SessionText}
 use Rattle.tj_app.specs.declared.words.Command.{Command}
@@ -29,14 +29,10 @@ use Rattle.tj_app.specs.Unbuilt.{touches_objects, is_of_kind_reference, is_no_in
 
 -- ---- tests that fail
 
-pub or_false : (a b : Bool) → (a || b) ≡ false → (a ≡ false) × (b ≡ false)
-or_false true b h = absurd (true≢false h)
-or_false false b h = (refl, h)
-
 pub any_false : {X : Type 0} (p : X → Bool) (xs : List X) → list_any p xs ≡ false → All (λ x. p x ≡ false) xs
 any_false p [] h = All-nil (λ x. p x ≡ false)
 any_false p (x ∷ xs) h =
-    let both = or_false (p x) (list_any p xs) h in All-cons (λ x. p x ≡ false) x xs both.0 (any_false p xs both.1)
+    let both = or_parts (p x) (list_any p xs) h in All-cons (λ x. p x ≡ false) x xs both.0 (any_false p xs both.1)
 
 found_not : {X : Type 0} (b : Bool) (x : X) (rest : Option X) → (if b then Some x else rest) ≡ None → (b ≡ false) × (rest ≡ None)
 found_not false x rest h = (refl, h)
@@ -63,7 +59,7 @@ both_all P Q R f (x ∷ xs) h g =
 -- ---- operations
 
 abbrev HasWordArgs : Op → Type 0
-HasWordArgs op = All IsWordArg op.args
+HasWordArgs op = All ArgHasWord op.args
 
 -- no guard, no overflow, no call, no jump and no object
 abbrev IsBare : OpCode → Type 0
@@ -131,7 +127,7 @@ integer_kind : (k : Kind) → is_of_kind_reference k ≡ false → k ≡ kind.In
 integer_kind kind.Int h = refl
 integer_kind kind.Ref h = absurd (true≢false h)
 
-integer_arg : (a : Arg) → IsWordArg a → is_no_integer a ≡ false → IsInteger a
+integer_arg : (a : Arg) → ArgHasWord a → is_no_integer a ≡ false → IsInteger a
 integer_arg (arg.Of b) names h = integer_kind b.kind h
 integer_arg (arg.Const z) names h = names
 integer_arg arg.Null names h = absurd (true≢false h)
@@ -139,16 +135,16 @@ integer_arg (arg.Class k) names h = absurd (true≢false h)
 integer_arg (arg.Func k) names h = absurd (true≢false h)
 integer_arg (arg.Ptr k) names h = absurd (true≢false h)
 
-integer_args : (b : Bool) (args : List Arg) → b ≡ false → All IsWordArg args → takes_references b args ≡ false → All IsInteger args
+integer_args : (b : Bool) (args : List Arg) → b ≡ false → All ArgHasWord args → takes_references b args ≡ false → All IsInteger args
 integer_args true args e names h = absurd (true≢false e)
 integer_args false args e names h =
-    both_all IsWordArg (λ a. is_no_integer a ≡ false) IsInteger integer_arg args names (any_false is_no_integer args h)
+    both_all ArgHasWord (λ a. is_no_integer a ≡ false) IsInteger integer_arg args names (any_false is_no_integer args h)
 
-word_op : (op : Op) → All IsWordArg op.args → op_needs un.Guard op ≡ false → op_needs un.Reference op ≡ false → op_needs un.Call op ≡ false → op_needs un.Jump op ≡ false → IsOfWords op
+word_op : (op : Op) → All ArgHasWord op.args → op_needs un.Guard op ≡ false → op_needs un.Reference op ≡ false → op_needs un.Call op ≡ false → op_needs un.Jump op ≡ false → IsOfWords op
 word_op op names g r k j =
-    let guards = or_false (is_guard op.code) (is_overflowing op.code) g in
-    let touches = or_false (touches_objects (part_of op.code) (cites_of op.code) (takes_of op.code)) _ r in
-    let gives = or_false (gives_reference op.result) (takes_references (is_call op.code) op.args) touches.1 in
+    let guards = or_parts (is_guard op.code) (is_overflowing op.code) g in
+    let touches = or_parts (touches_objects (part_of op.code) (cites_of op.code) (takes_of op.code)) _ r in
+    let gives = or_parts (gives_reference op.result) (takes_references (is_call op.code) op.args) touches.1 in
     record {
       code = word_code op.code (guards.0, guards.1, k, j, touches.0);
       args = integer_args (is_call op.code) op.args k names gives.1;
@@ -157,10 +153,10 @@ word_op op names g r k j =
 word_ops : (ops : List Op) → All HasWordArgs ops → list_any (op_needs un.Guard) ops ≡ false → list_any (op_needs un.Reference) ops ≡ false → list_any (op_needs un.Call) ops ≡ false → list_any (op_needs un.Jump) ops ≡ false → All IsOfWords ops
 word_ops [] names g r k j = All-nil IsOfWords
 word_ops (op ∷ ops) names g r k j =
-    let g2 = or_false (op_needs un.Guard op) (list_any (op_needs un.Guard) ops) g in
-    let r2 = or_false (op_needs un.Reference op) (list_any (op_needs un.Reference) ops) r in
-    let k2 = or_false (op_needs un.Call op) (list_any (op_needs un.Call) ops) k in
-    let j2 = or_false (op_needs un.Jump op) (list_any (op_needs un.Jump) ops) j in
+    let g2 = or_parts (op_needs un.Guard op) (list_any (op_needs un.Guard) ops) g in
+    let r2 = or_parts (op_needs un.Reference op) (list_any (op_needs un.Reference) ops) r in
+    let k2 = or_parts (op_needs un.Call op) (list_any (op_needs un.Call) ops) k in
+    let j2 = or_parts (op_needs un.Jump op) (list_any (op_needs un.Jump) ops) j in
     All-cons IsOfWords op ops (word_op op (All-head HasWordArgs op ops names) g2.0 r2.0 k2.0 j2.0)
     (word_ops ops (All-tail HasWordArgs op ops names) g2.1 r2.1 k2.1 j2.1)
 
@@ -173,8 +169,8 @@ a_loop (origin.Bridge name guard) h = absurd (true≢false h)
 -- what a trace doesn't need, neither its inputs nor its operations do
 inside : (what : Unbuilt) (t : Trace) → trace_needs what t ≡ false → (origin_needs what t.origin ≡ false) × (list_any (input_needs what) t.inputs ≡ false) × (list_any (op_needs what) t.ops ≡ false)
 inside what t h =
-    let one = or_false (origin_needs what t.origin) _ h in
-    let two = or_false (list_any (input_needs what) t.inputs) (list_any (op_needs what) t.ops) one.1 in (one.0, two.0, two.1)
+    let one = or_parts (origin_needs what t.origin) _ h in
+    let two = or_parts (list_any (input_needs what) t.inputs) (list_any (op_needs what) t.ops) one.1 in (one.0, two.0, two.1)
 
 word_trace : (t : Trace) → All HasWordArgs t.ops → trace_needs un.Guard t ≡ false → trace_needs un.Reference t ≡ false → trace_needs un.Call t ≡ false → trace_needs un.Jump t ≡ false → trace_needs un.Bridge t ≡ false → IsLoopOfWords t
 word_trace t names g r k j b =
@@ -188,11 +184,11 @@ word_trace t names g r k j b =
 word_traces : (ts : List Trace) → All (λ (t : Trace). All HasWordArgs t.ops) ts → list_any (trace_needs un.Guard) ts ≡ false → list_any (trace_needs un.Reference) ts ≡ false → list_any (trace_needs un.Call) ts ≡ false → list_any (trace_needs un.Jump) ts ≡ false → list_any (trace_needs un.Bridge) ts ≡ false → All IsLoopOfWords ts
 word_traces [] names g r k j b = All-nil IsLoopOfWords
 word_traces (t ∷ ts) names g r k j b =
-    let g2 = or_false (trace_needs un.Guard t) (list_any (trace_needs un.Guard) ts) g in
-    let r2 = or_false (trace_needs un.Reference t) (list_any (trace_needs un.Reference) ts) r in
-    let k2 = or_false (trace_needs un.Call t) (list_any (trace_needs un.Call) ts) k in
-    let j2 = or_false (trace_needs un.Jump t) (list_any (trace_needs un.Jump) ts) j in
-    let b2 = or_false (trace_needs un.Bridge t) (list_any (trace_needs un.Bridge) ts) b in
+    let g2 = or_parts (trace_needs un.Guard t) (list_any (trace_needs un.Guard) ts) g in
+    let r2 = or_parts (trace_needs un.Reference t) (list_any (trace_needs un.Reference) ts) r in
+    let k2 = or_parts (trace_needs un.Call t) (list_any (trace_needs un.Call) ts) k in
+    let j2 = or_parts (trace_needs un.Jump t) (list_any (trace_needs un.Jump) ts) j in
+    let b2 = or_parts (trace_needs un.Bridge t) (list_any (trace_needs un.Bridge) ts) b in
     All-cons IsLoopOfWords t ts (word_trace t (All-head (λ (t : Trace). All HasWordArgs t.ops) t ts names) g2.0 r2.0 k2.0 j2.0 b2.0)
     (word_traces ts (All-tail (λ (t : Trace). All HasWordArgs t.ops) t ts names) g2.1 r2.1 k2.1 j2.1 b2.1)
 
@@ -201,7 +197,7 @@ word_traces (t ∷ ts) names g r k j b =
 -- each of the three that may need it doesn't
 apart : (c : Command) (set : TraceSet) (s : SessionText) (what : Unbuilt) → needs c set s what ≡ false → (set_needs set what ≡ false) × (session_needs what s ≡ false)
 apart c set s what h =
-    let one = or_false (command_needs c what) _ h in or_false (set_needs set what) (session_needs what s) one.1
+    let one = or_parts (command_needs c what) _ h in or_parts (set_needs set what) (session_needs what s) one.1
 
 -- where nothing is needed: what isn't built, in its order
 pub record NeedsNothing (set : TraceSet) (s : SessionText) : Type 0 where
@@ -233,8 +229,8 @@ nothing_needed c set s h =
     }
 
 of_traces : (set : TraceSet) (what : Unbuilt) → set_needs set what ≡ false → list_any (trace_needs what) set.traces ≡ false
-of_traces set what h = (or_false (table_needs what set.table) (list_any (trace_needs what) set.traces) h).1
+of_traces set what h = (or_parts (table_needs what set.table) (list_any (trace_needs what) set.traces) h).1
 
 pub only_words : (set : TraceSet) (s : SessionText) → HasWords set → NeedsNothing set s → HasOnlyWords set
 only_words set s words h =
-    word_traces set.traces words (of_traces set un.Guard h.guard) (of_traces set un.Reference h.reference) (of_traces set un.Call h.call) (of_traces set un.Jump h.jump) (of_traces set un.Bridge h.bridge)
+    word_traces set.traces words.args (of_traces set un.Guard h.guard) (of_traces set un.Reference h.reference) (of_traces set un.Call h.call) (of_traces set un.Jump h.jump) (of_traces set un.Bridge h.bridge)

@@ -2,7 +2,7 @@
 use Rattle.std.proofs.Common.{◌≡◌, ℕ, List, Ok, Vec, Global, refl}
 use Rattle.std.specs.Prelude.{Result, MatchResult}
 use Rattle.trace_ops.specs.declared.trace.TraceSet.{TraceSet}
-use Rattle.trace_text.specs.Constants.{HasWords}
+use Rattle.trace_ops.specs.Constants.{HasWords}
 use Rattle.trace_text.specs.Sections.{set_at}
 use Rattle.session_text.specs.declared.session.SessionText.{SessionText}
 use Rattle.session_text.specs.Fits.{FitsSet}

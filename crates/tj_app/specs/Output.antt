@@ -6,8 +6,8 @@ use Rattle.trace_ops.specs.declared.trace.Arg.{Arg}
 use Rattle.trace_ops.specs.declared.trace.Arg.TheVariants as arg
 use Rattle.trace_ops.specs.declared.trace.Trace.{Trace}
 use Rattle.trace_ops.specs.declared.trace.TraceSet.{TraceSet}
-use Rattle.x64_encode.specs.declared.place.Place.{Place}
-use Rattle.x64_encode.specs.declared.place.Place.TheVariants.{In, Word}
+use Rattle.target_base.specs.declared.place.Place.{Place}
+use Rattle.target_base.specs.declared.place.Place.TheVariants.{In, Word}
 use Rattle.x64_machine.specs.declared.state.Counts64.{Counts64}
 use Rattle.straight_run.specs.declared.image.Image.{Image}
 use Rattle.straight_run.specs.declared.image.LoopImage.{LoopImage}

@@ -8,6 +8,7 @@ use crate::puts::{put, put_number};
 use crate::refusal::Fault;
 use descr_table::TableFault;
 use std::alloc::{AllocError, Global};
+use text_lines::lines_are_few;
 use trace_check::{CheckFault, Checked, check};
 use trace_ops::{TraceSet, weight};
 use trace_text::{TextFault, read_set};
@@ -38,6 +39,7 @@ fn set_of(alloc: Global, bytes: &[u8]) -> Result<TraceSet, Fault>
     requires { length bytes.now ≤ 16777216 }
     ensures { MatchResult result (λ set. StandsFor bytes.now set × IsInRange set) (IsBadText bytes.now) }
 {
+    lines_are_few();
     match read_set(alloc, bytes) {
         Ok((set, _)) => Ok(set),
         Err(why) => Err(text_fault(why)),

@@ -169,29 +169,34 @@ fn put_named(out: &mut Vec<u8>, letter: &[u8], number: u32) -> Result<(), AllocE
     put_number(out, u64::from(number))
 }
 
+// Adds a line of digits.
+fn put_hex_line(out: &mut Vec<u8>, line: &[u8]) -> Result<(), AllocError>
+    requires { length line.now ≤ 32 }
+    ensures { OnOk result (out.new.items ≡ out.old.items ++ (encode_lower line.now ++ 10 ∷ [])) }
+{
+    let mut digits = [0u8; 64];
+    let n = 2 * line.len();
+    let written = hex::encode_to_slice(line, &mut digits[..n]);
+    prove!(written.is_ok());
+    let _ = written;
+    out.extend_from_slice(&digits[..n])?;
+    out.push(b'\n')?;
+    Ok(())
+}
+
 /// Adds bytes in hexadecimal digits, 32 bytes a line.
 pub fn put_hex(out: &mut Vec<u8>, bytes: &[u8]) -> Result<(), AllocError>
     ensures { OnOk result (out.new.items ≡ out.old.items ++ hex_from 32 bytes.now) }
 {
-    let mut room = 32u8;
-    for byte in bytes {
-        put_byte(out, *byte)?;
-        if room == 1 {
-            out.push(b'\n')?;
-            room = 32;
-        } else {
-            room -= 1;
-        }
+    let mut rest = bytes;
+    while 32 < rest.len() {
+        let (line, after) = rest.split_at(32);
+        put_hex_line(out, line)?;
+        rest = after;
     }
-    if room != 32 {
-        out.push(b'\n')?;
+    if rest.len() == 0 {
+        return Ok(());
     }
+    put_hex_line(out, rest)?;
     Ok(())
-}
-
-fn put_byte(out: &mut Vec<u8>, byte: u8) -> Result<(), AllocError>
-    ensures { OnOk result (out.new.items ≡ out.old.items ++ encode_lower (byte ∷ [])) }
-{
-    let text = hex::encode(*out.allocator(), [byte].as_slice())?;
-    out.extend_from_slice(text.as_bytes())
 }

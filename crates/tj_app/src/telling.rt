@@ -11,6 +11,7 @@ use crate::unbuilt::first_need;
 use crate::words::Command;
 use session_text::{SessionFault, SessionText, session_of};
 use std::alloc::Global;
+use text_lines::lines_are_few;
 use trace_check::Checked;
 use trace_ops::{List, TraceSet};
 use trace_text::session_part;
@@ -42,6 +43,7 @@ fn session_over(alloc: Global, bytes: &[u8], set: &TraceSet) -> Result<SessionTe
     ensures told { MatchResult result (λ session. session_in set.now (session_part bytes.now) ≡ Ok session) (IsRefusedSession set.now (session_part bytes.now)) }
     ensures fits { IfOk result (FitsSet set.now) }
 {
+    lines_are_few();
     let Some((text, first_line)) = session_part(bytes) else {
         return Ok(no_session(alloc));
     };

@@ -17,6 +17,7 @@ use Rattle.trace_check.specs.declared.rule.Rule.{Rule}
 use Rattle.trace_check.specs.declared.rule.Rule.TheVariants as rule
 use Rattle.trace_ops.specs.Lawful.{AreDistinct}
 use Rattle.trace_check.specs.Boxes.{lacks, repeats}
+use Rattle.trace_ops.specs.Equality.{EqualityDecides}
 use Rattle.trace_check.specs.Walking.{flat, up, ArePlaced, HoldBelow, IsNewAt}
 use Rattle.trace_check.specs.Faults.{number_of, Holds, HoldAll, IsSound, IsFirstRule, IsFirstFault}
 use Rattle.trace_check.proofs.Knowing.{lacked_all, are_distinct}
@@ -113,8 +114,8 @@ pub known_past : (t : Trace) (k : ℕ) (seen : List BoxId) → None ≡ slice_ge
 known_past t k seen at d = d ∙ ap (λ (ops : List Op). t.inputs ++ flat_map (λ (op : Op). option_to_list op.result) ops) (sym (results_past t.ops k (past_end t.ops k (sym at))))
 
 -- where all rules hold the result is new
-pub is_lacked : (set : TraceSet) (i : ℕ) (t : Trace) (k : ℕ) (seen : List BoxId) → seen ≡ known_before t k → HoldAll set i t k → IsNewAt t k seen
-is_lacked set i t k seen d h o at = (lacked_all seen o.result (lacks seen o.result) refl).1 (subst (λ s. All (λ b. ¬ Contains s b) (option_to_list o.result)) (sym d) ((h rule.NewResult).0 o at))
+pub is_lacked : EqualityDecides → (set : TraceSet) (i : ℕ) (t : Trace) (k : ℕ) (seen : List BoxId) → seen ≡ known_before t k → HoldAll set i t k → IsNewAt t k seen
+is_lacked law set i t k seen d h o at = (lacked_all law seen o.result (lacks seen o.result) refl).1 (subst (λ s. All (λ b. ¬ Contains s b) (option_to_list o.result)) (sym d) ((h rule.NewResult).0 o at))
 
 abbrev pub HoldUpTo : TraceSet → ℕ → Trace → ℕ → Type 0
 HoldUpTo set i t k = (j : ℕ) → j < k → HoldAll set i t j
@@ -183,8 +184,8 @@ pub up_above : (set : TraceSet) (parents : List (Option ℕ)) (o : Option ℕ) �
 up_above set parents None e = refl
 up_above set parents (Some k) e = ap (λ ps. flat (slice_get ps k)) e ∙ ap flat (slice_get-map (λ (t : Trace). parent_named set.traces t.origin) set.traces k) ∙ flat_map_get set k
 
-pub begun : (t : Trace) (bs seen : List BoxId) → bs ≡ t.inputs → repeats [] bs ≡ false → seen ≡ bs → HasDistinctInputs t × (seen ≡ known_before t 0)
-begun t bs seen e f g = (subst AreDistinct e (are_distinct bs f), g ∙ e ∙ sym (append-nil t.inputs))
+pub begun : EqualityDecides → (t : Trace) (bs seen : List BoxId) → bs ≡ t.inputs → repeats [] bs ≡ false → seen ≡ bs → HasDistinctInputs t × (seen ≡ known_before t 0)
+begun law t bs seen e f g = (subst AreDistinct e (are_distinct law bs f), g ∙ e ∙ sym (append-nil t.inputs))
 
 pub walked_all : (set : TraceSet) (i : ℕ) (t : Trace) (k n : ℕ) (ops : List Op) → ops ≡ t.ops → n ≡ max (length ops) 1 → n ≤ k → HoldUpTo set i t k → IsSound set i t
 walked_all set i t k n ops same e le before = let l : length ops ≡ length t.ops = ap length same in all_sound set i t k (omega (arith, l, e, le)) before

@@ -19,7 +19,7 @@ use crate::order::{has_its_frames, is_beside_its_guard, is_end_only_at_end};
 use crate::parents::{has_its_parent, is_new_name, parents_of, receives_its_slots};
 use crate::rule::Rule;
 use std::alloc::{AllocError, Global};
-use trace_ops::{Op, Trace, TraceSet};
+use trace_ops::{Op, Trace, TraceSet, equality_decides};
 
 // The place of the parent, where there is one.
 fn up(parents: &[Option<usize>], at: Option<usize>) -> Option<usize>
@@ -77,6 +77,7 @@ fn lacks(trace: &Trace, k: usize, seen: &Boxes, op: &Op) -> bool
     requires { seen.now ≡ known_before trace.now k }
     ensures { IsTrue result ↔ GivesNewBox trace.now k op.now }
 {
+    equality_decides();
     seen.lacks(op.result)
 }
 
@@ -84,6 +85,7 @@ fn knows_all(trace: &Trace, k: usize, seen: &Boxes, op: &Op) -> bool
     requires { seen.now ≡ known_before trace.now k }
     ensures { IsTrue result ↔ UsesKnownBoxes trace.now k op.now }
 {
+    equality_decides();
     seen.knows_all(op)
 }
 
@@ -190,6 +192,7 @@ fn rule_at(
 fn begin(alloc: Global, trace: &Trace) -> Result<Option<Boxes>, AllocError>
     ensures { IfOk result (λ o. MatchOption o (HasDistinctInputs trace.now → ⊥) (λ b. HasDistinctInputs trace.now × (b ≡ known_before trace.now 0))) }
 {
+    equality_decides();
     match Boxes::of_inputs(alloc, trace.inputs.items()) {
         Err(e) => Err(e),
         Ok(None) => Ok(None),
@@ -226,6 +229,7 @@ fn walk(
     requires seen { seen ≡ known_before trace.now 0 }
     ensures { IfOk result (λ o. MatchOption o (IsSound set.now i trace.now) (λ f. IsFirstFault set.now i trace.now f.0 f.1)) }
 {
+    equality_decides();
     let count = trace.ops.items().len().max(1);
     for k in 0..count {
         if let Some(rule) = rule_at(set, parents, i, trace, k, &seen) {

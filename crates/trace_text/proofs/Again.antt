@@ -4,7 +4,7 @@ use Rattle.std.proofs.lemmas.List.{append-nil}
 use Rattle.std.specs.Prelude.{codes}
 use Rattle.std.specs.Str.{bytes_eq}
 use Rattle.std.proofs.lemmas.Slice.Eq.{bytes_eq-Decides}
-use Rattle.text_lines.specs.Reading.{◌>>=◌}
+use Rattle.lists.specs.Binds.{◌>>=◌}
 use Rattle.text_lines.specs.Numbers.{box_of, integer_of, decimal_of, decimal_behind}
 use Rattle.trace_text.specs.declared.value.Value.{Value}
 use Rattle.trace_text.specs.declared.value.Head.TheVariants as head

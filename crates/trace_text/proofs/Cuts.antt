@@ -5,6 +5,7 @@ use Rattle.std.proofs.Math.ListN.{drop_of_length-le}
 use Rattle.std.proofs.Math.Seq.{take-length}
 use Rattle.std.proofs.lemmas.Bool.{cases_lt}
 use Rattle.std.specs.List.{position_or_len}
+use Rattle.lists.proofs.Numbers.{one_more}
 use Rattle.text_lines.specs.Lines.{lines}
 use Rattle.trace_text.specs.Sections.{bytes_before, place_of, lines_before}
 
@@ -34,9 +35,6 @@ begins test text = record {
 passed : (test : Test) (k : ℕ) (l : List ℕ) (ls : List (List ℕ)) → test l ≡ false → bytes_before test k (l ∷ ls) ≡ bytes_before test (k + (length l + 1)) ls
 unfolding bytes_before
 passed test k l ls e = rw e refl
-
-one_more : (n : ℕ) → 1 + n ≡ suc n
-one_more n = omega arith
 
 place_passed : (test : Test) (l : List ℕ) (ls : List (List ℕ)) → test l ≡ false → position_or_len test (l ∷ ls) ≡ suc (position_or_len test ls)
 place_passed test l ls e = rw e (one_more (position_or_len test ls))

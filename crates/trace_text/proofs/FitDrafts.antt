@@ -5,6 +5,7 @@ use Rattle.std.specs.Str.{bytes_eq}
 use Rattle.std.specs.List.{All, list_any}
 use Rattle.std.proofs.lemmas.List.Elements.{All-nil, All-cons, All-append}
 use Rattle.std.proofs.lemmas.Bool.Decides.{nat_tests}
+use Rattle.std.proofs.lemmas.Bool.{or_parts}
 use Rattle.text_lines.specs.Words.{words, is_plain}
 use Rattle.text_lines.specs.Reading.{first_of, is_skipped}
 use Rattle.trace_ops.specs.declared.code.OpCode.{OpCode}
@@ -82,10 +83,6 @@ not_more n m e = grind (arith, nat_tests)
 not_full : (n m : ℕ) → not (nat_lt n m) ≡ false → n < m
 not_full n m e = grind (arith, nat_tests)
 
-pub both_not : (a b : Bool) → (a || b) ≡ false → (a ≡ false) × (b ≡ false)
-both_not true b e = absurd cc
-both_not false b e = (refl, e)
-
 pub record Passes (others : ℕ) (frames : List Slots) : Type 0 where
   pub operations : others < 8192
   pub frames_few : length frames ≤ 32
@@ -127,7 +124,7 @@ slots-frame own guard f = ap length (slots-framed (map arg_of f.slots) own guard
 few_slots : (own : List ℕ) (guard : ℕ) (fs : List Slots) → list_any (λ (f : Slots). not (nat_le (length f.slots) 256)) fs ≡ false → All (λ (f : Frame). length f.slots ≤ 256) (map (frame_of own guard) fs)
 few_slots own guard [] e = All-nil (λ (f : Frame). length f.slots ≤ 256)
 few_slots own guard (f ∷ fs) e =
-    let p = both_not (not (nat_le (length f.slots) 256)) (list_any (λ (g : Slots). not (nat_le (length g.slots) 256)) fs) e in
+    let p = or_parts (not (nat_le (length f.slots) 256)) (list_any (λ (g : Slots). not (nat_le (length g.slots) 256)) fs) e in
     let small : length (frame_of own guard f).slots ≤ 256 = omega (arith, slots-frame own guard f, not_more (length f.slots) 256 p.0) in
     All-cons (λ (g : Frame). length g.slots ≤ 256) (frame_of own guard f) (map (frame_of own guard) fs) small (few_slots own guard fs p.1)
 

@@ -15,9 +15,8 @@ use Rattle.trace_ops.specs.declared.table.ArrayRow.{ArrayRow}
 use Rattle.trace_ops.specs.declared.table.CallRow.{CallRow}
 use Rattle.trace_ops.specs.declared.table.PrebuiltRow.{PrebuiltRow}
 use Rattle.trace_ops.specs.declared.table.Table.{Table}
-use Rattle.descr_table.specs.Writing.{size_name, field_name, array_name, prebuilt_name, size_name_in, field_name_in, array_name_in, prebuilt_name_in}
+use Rattle.descr_table.specs.Names.{size_name, field_name, array_name, prebuilt_name, size_name_in, field_name_in, array_name_in, prebuilt_name_in, vtable_name, call_name, function_name, or_nothing, vtable_in, call_name_in}
 use Rattle.trace_text.specs.Names.{look, with_class, vtables_from, functions_from, prebuilts_from, sizes_from, fields_from, arrays_from, calls_from, names_of}
-use Rattle.trace_text.specs.Writing.{vtable_name, call_name, function_name, or_nothing, vtable_in, call_name_in}
 
 -- each entry has the name of what it stands for
 abbrev pub Keyed : {X : Type 0} → (List ℕ → X → Type 0) → List (List ℕ × X) → Type 0

@@ -1,3 +1,4 @@
+mod Below
 pub mod Steps
 pub mod LineByLine
 pub mod Cuts

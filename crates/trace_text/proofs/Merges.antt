@@ -2,10 +2,10 @@
 use Rattle.std.proofs.Common.{◌≡◌, ℕ, zero, suc, ◌+◌, ◌-◌, Bool, true, false, eqb, List, [], ◌∷◌, ◌++◌, codes, refl, sym, ap, subst, ◌∙◌, arith, append_assoc}
 use Rattle.std.specs.Prelude.{◌==◌, ◌&&◌, if◌then◌else◌}
 use Rattle.std.specs.Str.{bytes_eq}
-use Rattle.std.proofs.lemmas.Bool.{false≢true, ne_eqb}
+use Rattle.std.proofs.lemmas.Bool.{false≢true, ne_eqb, and_parts}
+use Rattle.lists.proofs.Bools.{bytes_same}
 use Rattle.trace_text.specs.Heading.{closes, is_nil, is_merge}
 use Rattle.trace_text.specs.Merging.{Balanced, nothing, a_word, brackets, SpellsMerge, merge_point}
-use Rattle.trace_text.proofs.SpelledSlots.{same_word}
 
 -- ---- one word
 
@@ -77,9 +77,9 @@ closed (suc d) ws more h = ([], ws, nothing, refl, more d (sym (deeper d ws) ∙
 
 by_word : (d : ℕ) (w : List ℕ) (ws : List (List ℕ)) → ((n : ℕ) → closes (suc n) ws ≡ true → Closing (suc n) ws) → (o c : Bool) → bytes_eq w (codes "(") ≡ o → bytes_eq w (codes ")") ≡ c → closes (suc d) (w ∷ ws) ≡ true → Closing (suc d) (w ∷ ws)
 by_word d w ws more true c e f h =
-    subst (λ x. Closing (suc d) (x ∷ ws)) (sym (same_word w (codes "(") e)) (opened d ws (more (suc d) (sym (open_step d w ws e) ∙ h)))
+    subst (λ x. Closing (suc d) (x ∷ ws)) (sym (bytes_same w (codes "(") e)) (opened d ws (more (suc d) (sym (open_step d w ws e) ∙ h)))
 by_word d w ws more false true e f h =
-    let is = same_word w (codes ")") f in
+    let is = bytes_same w (codes ")") f in
     subst (λ x. Closing (suc d) (x ∷ ws)) (sym is) (closed d ws more (sym (close_step d ws) ∙ subst (λ x. closes (suc d) (x ∷ ws) ≡ true) is h))
 by_word d w ws more false false e f h = passed d w ws e f (more d (sym (word_step d w ws e f) ∙ h))
 
@@ -89,14 +89,10 @@ closing d [] h = absurd (false≢true h)
 closing d (w ∷ ws) h =
     by_word d w ws (λ n. closing n ws) (bytes_eq w (codes "(")) (bytes_eq w (codes ")")) refl refl h
 
-both_true : (a b : Bool) → (a && b) ≡ true → (a ≡ true) × (b ≡ true)
-both_true true b h = (refl, h)
-both_true false b h = absurd (false≢true h)
-
 -- the first bracket opens
 begins : (w : List ℕ) (ws : List (List ℕ)) (o : Bool) → bytes_eq w (codes "(") ≡ o → closes 0 (w ∷ ws) ≡ true → (w ≡ codes "(") × Closing 1 ws
 unfolding closes
-begins w ws true e h = (same_word w (codes "(") e, closing 0 ws (sym (rw e refl) ∙ h))
+begins w ws true e h = (bytes_same w (codes "(") e, closing 0 ws (sym (rw e refl) ∙ h))
 begins w ws false e h = absurd (false≢true (sym (rw e refl) ∙ h))
 
 merged : (w : List ℕ) (rest : List (List ℕ)) → bytes_eq w (codes "debug_merge_point") ≡ true → closes 0 rest ≡ true → SpellsMerge (w ∷ rest)
@@ -105,10 +101,10 @@ merged w [] e h = absurd (false≢true h)
 merged w (v ∷ vs) e h =
     let first = begins v vs (bytes_eq v (codes "(")) refl h in
     let (inside, behind, balanced, same, none) = first.1 in
-    let all : w ∷ v ∷ vs ≡ codes "debug_merge_point" ∷ codes "(" ∷ (inside ++ codes ")" ∷ []) = ap (λ x. x ∷ v ∷ vs) (same_word w (codes "debug_merge_point") e) ∙ ap (λ x. codes "debug_merge_point" ∷ x ∷ vs) first.0 ∙ ap (λ x. codes "debug_merge_point" ∷ codes "(" ∷ x) (same ∙ ap (λ x. inside ++ codes ")" ∷ x) none) in
+    let all : w ∷ v ∷ vs ≡ codes "debug_merge_point" ∷ codes "(" ∷ (inside ++ codes ")" ∷ []) = ap (λ x. x ∷ v ∷ vs) (bytes_same w (codes "debug_merge_point") e) ∙ ap (λ x. codes "debug_merge_point" ∷ x ∷ vs) first.0 ∙ ap (λ x. codes "debug_merge_point" ∷ codes "(" ∷ x) (same ∙ ap (λ x. inside ++ codes ")" ∷ x) none) in
     subst SpellsMerge (sym all) (merge_point balanced)
 
 pub merge_again : (ws : List (List ℕ)) → is_merge ws ≡ true → SpellsMerge ws
 unfolding is_merge
 merge_again [] h = absurd (false≢true h)
-merge_again (w ∷ ws) h = let both = both_true (bytes_eq w (codes "debug_merge_point")) (closes 0 ws) h in merged w ws both.0 both.1
+merge_again (w ∷ ws) h = let both = and_parts (bytes_eq w (codes "debug_merge_point")) (closes 0 ws) h in merged w ws both.0 both.1

@@ -6,10 +6,11 @@ use Rattle.std.specs.List.{list_any, list_all}
 use Rattle.std.proofs.lemmas.Bool.{le-leb, lt-ltb}
 use Rattle.std.proofs.lemmas.Bool.Decides.{nat_tests}
 use Rattle.std.proofs.lemmas.Slice.Eq.{bytes_eq-Decides}
+use Rattle.lists.proofs.Eaches.{each_weaker}
+use Rattle.lists.proofs.Bools.{or_false}
 use Rattle.text_lines.specs.Words.{words, is_name, is_name_byte, is_letter, is_plain}
 use Rattle.text_lines.specs.Reading.{first_of, is_skipped}
 use Rattle.text_lines.specs.Numbers.{box_of}
-use Rattle.text_lines.proofs.Written.{name_is_word}
 use Rattle.trace_ops.specs.declared.code.OpCode.{OpCode}
 use Rattle.trace_ops.specs.declared.trace.Kind.{Kind}
 use Rattle.trace_ops.specs.declared.trace.Kind.TheVariants as kind
@@ -43,6 +44,7 @@ use Rattle.trace_text.proofs.WordsBack.{letter_for}
 use Rattle.trace_text.proofs.PiecesBack.{tight_line, cited}
 use Rattle.trace_text.proofs.OpNamesBack.{op_name, code_again}
 use Rattle.trace_text.proofs.LinesBack.{value_of, slots_for, made_for, parts_for, op_words, op_spelled, op_body, op_piece, box_of_line, descr_found_again, meant, op_meant}
+use Rattle.trace_text.proofs.Below.{TextLaws}
 
 abbrev Words : Type 0
 Words = List (List ℕ)
@@ -84,24 +86,17 @@ line_said t _ _ other (line_made {b} {n} {x} also made is s more) =
 
 -- ---- no refusal
 
-pub both_false : (a b : Bool) → a ≡ false → b ≡ false → (a || b) ≡ false
-both_false a b h i = rw (h, i) refl
-
 any_none : (test : Value → Bool) (xs : List Arg) → Each (λ (a : Arg). test (value_of a) ≡ false) xs → list_any test (map value_of xs) ≡ false
 any_none test [] h = refl
-any_none test (x ∷ xs) h = both_false (test (value_of x)) (list_any test (map value_of xs)) h.0 (any_none test xs h.1)
+any_none test (x ∷ xs) h = or_false (test (value_of x)) (list_any test (map value_of xs)) h.0 (any_none test xs h.1)
 
 frames_none : (test : Value → Bool) (fs : List Frame) → Each (λ (f : Frame). Each (λ (a : Arg). test (value_of a) ≡ false) f.slots) fs → list_any (λ (f : Slots). list_any test f.slots) (map slots_for fs) ≡ false
 frames_none test [] h = refl
-frames_none test (f ∷ fs) h = both_false (list_any test (map value_of f.slots)) (list_any (λ (f : Slots). list_any test f.slots) (map slots_for fs)) (any_none test f.slots h.0) (frames_none test fs h.1)
+frames_none test (f ∷ fs) h = or_false (list_any test (map value_of f.slots)) (list_any (λ (f : Slots). list_any test f.slots) (map slots_for fs)) (any_none test f.slots h.0) (frames_none test fs h.1)
 
 each_of : {X : Type 0} (P : X → Type 0) → ((x : X) → P x) → (xs : List X) → Each P xs
 each_of P f [] = tt
 each_of P f (x ∷ xs) = (f x, each_of P f xs)
-
-each_as : {X : Type 0} (P Q : X → Type 0) → ((x : X) → P x → Q x) → (xs : List X) → Each P xs → Each Q xs
-each_as P Q f [] h = tt
-each_as P Q f (x ∷ xs) h = (f x h.0, each_as P Q f xs h.1)
 
 letter_no_float : (k : Kind) → is_float_letter (letter_for k) ≡ false
 letter_no_float kind.Int = refl
@@ -142,7 +137,7 @@ frames_few : (t : Table) (seen : List BoxId) (fs : List Frame) → Each (ReadsFr
 frames_few t seen [] h = refl
 frames_few t seen (f ∷ fs) h =
     let small : length (map value_of f.slots) ≤ 256 = omega (arith, length-map value_of f.slots, (h.0).few) in
-    both_false (not (nat_le (length (map value_of f.slots)) 256)) (list_any (λ (f : Slots). not (nat_le (length f.slots) 256)) (map slots_for fs)) (few_by (length (map value_of f.slots)) small) (frames_few t seen fs h.1)
+    or_false (not (nat_le (length (map value_of f.slots)) 256)) (list_any (λ (f : Slots). not (nat_le (length f.slots) 256)) (map slots_for fs)) (few_by (length (map value_of f.slots)) small) (frames_few t seen fs h.1)
 
 -- a line with these parts
 abbrev pub line_for : Parts → Line
@@ -177,20 +172,20 @@ not_refused t seen others op h =
     let count : length frames ≡ length op.snapshot = length-map slots_for op.snapshot in
     let coded : code_of (name_of op.code) ≡ Some op.code = code_again op.code in
     let framed : is_misframed (code_of (name_of op.code)) l ≡ false = ap (λ (o : Option OpCode). is_misframed o l) coded ∙ not_misframed op.code (length frames) (length op.snapshot) count h.framed in
-    let placed : is_misplaced l ≡ false = both_false (bytes_eq (name_of op.code) (codes "debug_merge_point")) (is_misframed (code_of (name_of op.code)) l) facts.3 framed in
-    let no_floats : any_value is_float l ≡ false = both_false (list_any is_float (map value_of op.args)) (list_any (λ (f : Slots). list_any is_float f.slots) frames)
+    let placed : is_misplaced l ≡ false = or_false (bytes_eq (name_of op.code) (codes "debug_merge_point")) (is_misframed (code_of (name_of op.code)) l) facts.3 framed in
+    let no_floats : any_value is_float l ≡ false = or_false (list_any is_float (map value_of op.args)) (list_any (λ (f : Slots). list_any is_float f.slots) frames)
     (any_none is_float op.args (each_of (λ (a : Arg). is_float (value_of a) ≡ false) value_no_float op.args))
     (frames_none is_float op.snapshot (each_of (λ (f : Frame). Each (λ (a : Arg). is_float (value_of a) ≡ false) f.slots) (λ f. each_of (λ (a : Arg). is_float (value_of a) ≡ false) value_no_float f.slots) op.snapshot)) in
-    let float : has_float l ≡ false = both_false (makes_float (made_for op.result) || any_value is_float l) (is_float_name (name_of op.code)) (both_false (makes_float (made_for op.result)) (any_value is_float l) (made_no_float op.result) no_floats) facts.1 in
+    let float : has_float l ≡ false = or_false (makes_float (made_for op.result) || any_value is_float l) (is_float_name (name_of op.code)) (or_false (makes_float (made_for op.result)) (any_value is_float l) (made_no_float op.result) no_floats) facts.1 in
     let known_op : not (is_some (code_of (name_of op.code))) ≡ false = ap (λ (o : Option OpCode). not (is_some o)) coded in
-    let names : any_value is_unknown_name l ≡ false = both_false (list_any is_unknown_name (map value_of op.args)) (list_any (λ (f : Slots). list_any is_unknown_name f.slots) frames)
+    let names : any_value is_unknown_name l ≡ false = or_false (list_any is_unknown_name (map value_of op.args)) (list_any (λ (f : Slots). list_any is_unknown_name f.slots) frames)
     (any_none is_unknown_name op.args (each_of (λ (a : Arg). is_unknown_name (value_of a) ≡ false) value_is_known op.args))
     (frames_none is_unknown_name op.snapshot (each_of (λ (f : Frame). Each (λ (a : Arg). is_unknown_name (value_of a) ≡ false) f.slots) (λ f. each_of (λ (a : Arg). is_unknown_name (value_of a) ≡ false) value_is_known f.slots) op.snapshot)) in
     let descr : not (is_some (descr_found (names_of t) (code_of (name_of op.code)) (cited t op.descr))) ≡ false = ap (λ (o : Option OpCode). not (is_some (descr_found (names_of t) o (cited t op.descr)))) coded ∙ ap (λ o. not (is_some o)) (descr_found_again t op.code op.descr h.descr) in
-    let known_names : has_unknown_name (names_of t) l ≡ false = both_false (any_value is_unknown_name l) (not (is_some (descr_found (names_of t) (code_of (name_of op.code)) (cited t op.descr)))) names descr in
-    let boxes : any_value (is_unknown_box seen) l ≡ false = both_false (list_any (is_unknown_box seen) (map value_of op.args)) (list_any (λ (f : Slots). list_any (is_unknown_box seen) f.slots) frames)
-    (any_none (is_unknown_box seen) op.args (each_as (KnowsArg seen) (λ (a : Arg). is_unknown_box seen (value_of a) ≡ false) (box_is_known seen) op.args h.known))
-    (frames_none (is_unknown_box seen) op.snapshot (each_as (ReadsFrame t seen) (λ (f : Frame). Each (λ (a : Arg). is_unknown_box seen (value_of a) ≡ false) f.slots) (λ f r. each_as (KnowsArg seen) (λ (a : Arg). is_unknown_box seen (value_of a) ≡ false) (box_is_known seen) f.slots r.known) op.snapshot h.frames)) in
+    let known_names : has_unknown_name (names_of t) l ≡ false = or_false (any_value is_unknown_name l) (not (is_some (descr_found (names_of t) (code_of (name_of op.code)) (cited t op.descr)))) names descr in
+    let boxes : any_value (is_unknown_box seen) l ≡ false = or_false (list_any (is_unknown_box seen) (map value_of op.args)) (list_any (λ (f : Slots). list_any (is_unknown_box seen) f.slots) frames)
+    (any_none (is_unknown_box seen) op.args (each_weaker (KnowsArg seen) (λ (a : Arg). is_unknown_box seen (value_of a) ≡ false) (box_is_known seen) op.args h.known))
+    (frames_none (is_unknown_box seen) op.snapshot (each_weaker (ReadsFrame t seen) (λ (f : Frame). Each (λ (a : Arg). is_unknown_box seen (value_of a) ≡ false) f.slots) (λ f r. each_weaker (KnowsArg seen) (λ (a : Arg). is_unknown_box seen (value_of a) ≡ false) (box_is_known seen) f.slots r.known) op.snapshot h.frames)) in
     let room : not (nat_lt others 8192) ≡ false = ap not (lt-ltb others 8192 h.room) in
     let few : not (nat_le (length frames) 32) ≡ false = ap not (le-leb (length frames) 32 (omega (arith, count, h.few))) in
     let slots = frames_few t seen op.snapshot h.frames in
@@ -265,9 +260,9 @@ body_reads t n d line ws p open_here plain are other s =
     let body : read_in (names_of t) n d.phase d ws ≡ read_op (names_of t) n d (Some (line_for p)) = open_reads t n d.phase d ws open_here ∙ rw (said.no_merge, at) parts in
     rw (plain, are, said.kept, said.body) body
 
-pub op_line_read : (t : Table) (n : ℕ) (d : Draft) (op : Op) → is_open d.phase ≡ true → ReadsOp t d.seen (length d.ops) op → (is_plain (op_body t op) ≡ true) × (read_line (names_of t) n (op_body t op) d ≡ Ok (with_op op.code op d))
-op_line_read t n d op open_here h =
+pub op_line_read : (laws : TextLaws) (t : Table) (n : ℕ) (d : Draft) (op : Op) → is_open d.phase ≡ true → ReadsOp t d.seen (length d.ops) op → (is_plain (op_body t op) ≡ true) × (read_line (names_of t) n (op_body t op) d ≡ Ok (with_op op.code op d))
+op_line_read laws t n d op open_here h =
     let facts = name_facts op.code in
-    let piece = op_piece t d.seen (length d.ops) op (name_is_word (name_of op.code) facts.0) h in
-    let s = op_spelled t d.seen (length d.ops) op facts.0 h in
+    let piece = op_piece laws t d.seen (length d.ops) op (laws.spelled.spelling.name_is_word (name_of op.code) facts.0) h in
+    let s = op_spelled laws t d.seen (length d.ops) op facts.0 h in
     (piece.plain, body_reads t n d (op_body t op) (op_words t op) (parts_for t op) open_here piece.plain (tight_line (op_body t op) (op_words t op) piece) facts.3 s ∙ op_read t n d op h)

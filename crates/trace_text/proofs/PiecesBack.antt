@@ -5,12 +5,10 @@ use Rattle.std.proofs.lemmas.Bool.{lt-ltb}
 use Rattle.std.specs.Prelude.{codes, nat_lt, ◌&&◌}
 use Rattle.std.specs.List.{flat_map}
 use Rattle.std.specs.Fmt.{signed_decimal}
+use Rattle.lists.proofs.Tests.{list_all_append}
 use Rattle.text_lines.specs.Words.{words, is_name, is_mark, is_word_byte, begins_word, is_plain}
 use Rattle.text_lines.specs.Written.{IsWord}
-use Rattle.text_lines.proofs.WordLaws.{alone}
-use Rattle.text_lines.proofs.Written.{words_word, list_all-append, name_is_word}
-use Rattle.text_lines.proofs.Integers.{integer_is_word}
-use Rattle.text_lines.proofs.Pieces.{Says, says_nothing, says_both}
+use Rattle.text_lines.specs.Laws.{Says}
 use Rattle.trace_ops.specs.declared.trace.BoxId.{BoxId}
 use Rattle.trace_ops.specs.declared.trace.Arg.{Arg}
 use Rattle.trace_ops.specs.declared.trace.Arg.TheVariants as arg
@@ -18,12 +16,13 @@ use Rattle.trace_ops.specs.declared.trace.Descr.{Descr}
 use Rattle.trace_ops.specs.declared.trace.Descr.TheVariants as descr
 use Rattle.trace_ops.specs.declared.trace.Frame.{Frame}
 use Rattle.trace_ops.specs.declared.table.Table.{Table}
-use Rattle.descr_table.specs.Writing.{prebuilt_name}
-use Rattle.trace_text.specs.Writing.{vtable_name, function_name, box_text, class_text, object_text, arg_text, more_args, args_text, more_boxes, boxes_text, cited_text, descr_text, frame_text, snapshot_text, made_text}
+use Rattle.descr_table.specs.Names.{prebuilt_name, vtable_name, function_name}
+use Rattle.trace_text.specs.Writing.{box_text, class_text, object_text, arg_text, more_args, args_text, more_boxes, boxes_text, cited_text, descr_text, frame_text, snapshot_text, made_text}
 use Rattle.trace_text.proofs.ReadSets.{Each, NameOrNone, ReadsArg, ReadsSlot, ReadsFrame, ReadsResult}
 use Rattle.trace_text.proofs.ReadLines.{slot_is_arg}
 use Rattle.trace_text.proofs.KeyNames.{descr_name}
 use Rattle.trace_text.proofs.WordsBack.{box_is_word, frame_word, frame_is_word}
+use Rattle.trace_text.proofs.Below.{TextLaws}
 
 abbrev Words : Type 0
 Words = List (List ℕ)
@@ -40,12 +39,8 @@ pub record Tight (text : List ℕ) (ws : List (List ℕ)) : Type 0 where
   pub words_are : (rest : List ℕ) → words (text ++ rest) ≡ ws ++ words rest
   pub plain : is_plain text ≡ true
 
-loose_by : (w rest : List ℕ) → IsWord w → begins_word rest ≡ false → words (w ++ rest) ≡ w ∷ words rest
-loose_by [] rest h e = absurd (omega (arith, h.some))
-loose_by (c ∷ cs) rest h e = words_word c cs rest h.bytes e
-
-pub loose_word : (w : List ℕ) → IsWord w → Loose w (w ∷ [])
-loose_word w h = record { words_are = λ rest e. loose_by w rest h e; plain = h.plain }
+pub loose_word : (laws : TextLaws) (w : List ℕ) → IsWord w → Loose w (w ∷ [])
+loose_word laws w h = record { words_are = λ rest e. laws.spelled.pieces.word_behind w rest h e; plain = h.plain }
 
 loosely : (text : List ℕ) (ws : Words) → Tight text ws → Loose text ws
 loosely text ws h = record { words_are = λ rest e. h.words_are rest; plain = h.plain }
@@ -57,35 +52,35 @@ pub tight_space : Tight (32 ∷ []) []
 unfolding words
 tight_space = record { words_are = λ rest. refl; plain = refl }
 
-tight_mark : (m : ℕ) → is_word_byte m ≡ false → eqb m 32 ≡ false → (leb 32 m && leb m 126) ≡ true → Tight (m ∷ []) ((m ∷ []) ∷ [])
-tight_mark m b s p = record { words_are = λ rest. alone m rest s (rw b refl); plain = rw p refl }
+tight_mark : (laws : TextLaws) (m : ℕ) → is_word_byte m ≡ false → eqb m 32 ≡ false → (leb 32 m && leb m 126) ≡ true → Tight (m ∷ []) ((m ∷ []) ∷ [])
+tight_mark laws m b s p = record { words_are = λ rest. laws.spelled.pieces.alone m rest s (rw b refl); plain = rw p refl }
 
-tight_open : Tight (40 ∷ []) (codes "(" ∷ [])
+tight_open : (laws : TextLaws) → Tight (40 ∷ []) (codes "(" ∷ [])
 unfolding is_word_byte is_mark
-tight_open = tight_mark 40 refl refl refl
+tight_open laws = tight_mark laws 40 refl refl refl
 
-tight_close : Tight (41 ∷ []) (codes ")" ∷ [])
+tight_close : (laws : TextLaws) → Tight (41 ∷ []) (codes ")" ∷ [])
 unfolding is_word_byte is_mark
-tight_close = tight_mark 41 refl refl refl
+tight_close laws = tight_mark laws 41 refl refl refl
 
-tight_comma : Tight (44 ∷ []) (codes "," ∷ [])
+tight_comma : (laws : TextLaws) → Tight (44 ∷ []) (codes "," ∷ [])
 unfolding is_word_byte is_mark
-tight_comma = tight_mark 44 refl refl refl
+tight_comma laws = tight_mark laws 44 refl refl refl
 
-tight_equals : Tight (61 ∷ []) (codes "=" ∷ [])
+tight_equals : (laws : TextLaws) → Tight (61 ∷ []) (codes "=" ∷ [])
 unfolding is_word_byte is_mark
-tight_equals = tight_mark 61 refl refl refl
+tight_equals laws = tight_mark laws 61 refl refl refl
 
-pub tight_bracket : Tight (91 ∷ []) (codes "[" ∷ [])
+pub tight_bracket : (laws : TextLaws) → Tight (91 ∷ []) (codes "[" ∷ [])
 unfolding is_word_byte is_mark
-tight_bracket = tight_mark 91 refl refl refl
+tight_bracket laws = tight_mark laws 91 refl refl refl
 
-tight_end : Tight (93 ∷ []) (codes "]" ∷ [])
+tight_end : (laws : TextLaws) → Tight (93 ∷ []) (codes "]" ∷ [])
 unfolding is_word_byte is_mark
-tight_end = tight_mark 93 refl refl refl
+tight_end laws = tight_mark laws 93 refl refl refl
 
 both_plain : (a b : List ℕ) → is_plain a ≡ true → is_plain b ≡ true → is_plain (a ++ b) ≡ true
-both_plain a b h i = list_all-append (λ c. leb 32 c && leb c 126) a b h i
+both_plain a b h i = list_all_append (λ c. leb 32 c && leb c 126) a b h i
 
 pub tight_both : (a b : List ℕ) (u v : Words) → Tight a u → Tight b v → Tight (a ++ b) (u ++ v)
 tight_both a b u v h i = record {
@@ -140,17 +135,17 @@ pub space_apart : (rest : List ℕ) → begins_word (32 ∷ rest) ≡ false
 unfolding is_word_byte
 space_apart rest = refl
 
-pub opened : (a : List ℕ) (u : Words) → Loose a u → Tight (a ++ 40 ∷ []) (u ++ codes "(" ∷ [])
-opened a u h = loose_tight a (40 ∷ []) u (codes "(" ∷ []) h tight_open open_apart
+pub opened : (laws : TextLaws) (a : List ℕ) (u : Words) → Loose a u → Tight (a ++ 40 ∷ []) (u ++ codes "(" ∷ [])
+opened laws a u h = loose_tight a (40 ∷ []) u (codes "(" ∷ []) h (tight_open laws) open_apart
 
-pub shut : (a : List ℕ) (u : Words) → Loose a u → Tight (a ++ 41 ∷ []) (u ++ codes ")" ∷ [])
-shut a u h = loose_tight a (41 ∷ []) u (codes ")" ∷ []) h tight_close close_apart
+pub shut : (laws : TextLaws) (a : List ℕ) (u : Words) → Loose a u → Tight (a ++ 41 ∷ []) (u ++ codes ")" ∷ [])
+shut laws a u h = loose_tight a (41 ∷ []) u (codes ")" ∷ []) h (tight_close laws) close_apart
 
-bracketed : (a : List ℕ) (u : Words) → Loose a u → Tight (a ++ 91 ∷ []) (u ++ codes "[" ∷ [])
-bracketed a u h = loose_tight a (91 ∷ []) u (codes "[" ∷ []) h tight_bracket bracket_apart
+bracketed : (laws : TextLaws) (a : List ℕ) (u : Words) → Loose a u → Tight (a ++ 91 ∷ []) (u ++ codes "[" ∷ [])
+bracketed laws a u h = loose_tight a (91 ∷ []) u (codes "[" ∷ []) h (tight_bracket laws) bracket_apart
 
-pub ended : (a : List ℕ) (u : Words) → Loose a u → Tight (a ++ 93 ∷ []) (u ++ codes "]" ∷ [])
-ended a u h = loose_tight a (93 ∷ []) u (codes "]" ∷ []) h tight_end end_apart
+pub ended : (laws : TextLaws) (a : List ℕ) (u : Words) → Loose a u → Tight (a ++ 93 ∷ []) (u ++ codes "]" ∷ [])
+ended laws a u h = loose_tight a (93 ∷ []) u (codes "]" ∷ []) h (tight_end laws) end_apart
 
 pub spaced : (a : List ℕ) (u : Words) → Loose a u → Tight (a ++ 32 ∷ []) (u ++ [])
 spaced a u h = loose_tight a (32 ∷ []) u [] h tight_space space_apart
@@ -200,32 +195,32 @@ key_descr : IsWord (codes "descr")
 unfolding is_word_byte is_mark
 key_descr = record { some = omega arith; bytes = refl; plain = refl }
 
-named : (key n : List ℕ) → IsWord key → IsWord n → Loose (((key ++ 40 ∷ []) ++ n) ++ 41 ∷ []) (name_words key n)
-named key n h i = loosely (((key ++ 40 ∷ []) ++ n) ++ 41 ∷ []) (name_words key n) (shut ((key ++ 40 ∷ []) ++ n) (key ∷ codes "(" ∷ n ∷ []) (tight_loose (key ++ 40 ∷ []) n (key ∷ codes "(" ∷ []) (n ∷ []) (opened key (key ∷ []) (loose_word key h)) (loose_word n i)))
+named : (laws : TextLaws) (key n : List ℕ) → IsWord key → IsWord n → Loose (((key ++ 40 ∷ []) ++ n) ++ 41 ∷ []) (name_words key n)
+named laws key n h i = loosely (((key ++ 40 ∷ []) ++ n) ++ 41 ∷ []) (name_words key n) (shut laws ((key ++ 40 ∷ []) ++ n) (key ∷ codes "(" ∷ n ∷ []) (tight_loose (key ++ 40 ∷ []) n (key ∷ codes "(" ∷ []) (n ∷ []) (opened laws key (key ∷ []) (loose_word laws key h)) (loose_word laws n i)))
 
-arg_piece : (t : Table) (x : Arg) → ReadsArg t x → Loose (arg_text t x) (arg_words t x)
+arg_piece : (laws : TextLaws) (t : Table) (x : Arg) → ReadsArg t x → Loose (arg_text t x) (arg_words t x)
 unfolding arg_text class_text object_text
-arg_piece t (arg.Of b) h = loose_word (box_text b) (box_is_word b h)
-arg_piece t (arg.Const z) h = loose_word (signed_decimal z) (integer_is_word z h)
-arg_piece t arg.Null h = loose_word (codes "NULL") key_null
-arg_piece t (arg.Class k) h = named (codes "ConstClass") (vtable_name t k) key_class (name_is_word (vtable_name t k) h.0)
-arg_piece t (arg.Func k) h = named (codes "ConstClass") (function_name t k) key_class (name_is_word (function_name t k) h.0)
-arg_piece t (arg.Ptr k) h = named (codes "ConstPtr") (prebuilt_name t k) key_object (name_is_word (prebuilt_name t k) h.0)
+arg_piece laws t (arg.Of b) h = loose_word laws (box_text b) (box_is_word laws b h)
+arg_piece laws t (arg.Const z) h = loose_word laws (signed_decimal z) (laws.spelled.spelling.integer_is_word z (record { sfits = h }))
+arg_piece laws t arg.Null h = loose_word laws (codes "NULL") key_null
+arg_piece laws t (arg.Class k) h = named laws (codes "ConstClass") (vtable_name t k) key_class (laws.spelled.spelling.name_is_word (vtable_name t k) h.0)
+arg_piece laws t (arg.Func k) h = named laws (codes "ConstClass") (function_name t k) key_class (laws.spelled.spelling.name_is_word (function_name t k) h.0)
+arg_piece laws t (arg.Ptr k) h = named laws (codes "ConstPtr") (prebuilt_name t k) key_object (laws.spelled.spelling.name_is_word (prebuilt_name t k) h.0)
 
 -- behind a comma and a space
-behind_comma : (a : List ℕ) (u : Words) → Loose a u → Says ((44 ∷ 32 ∷ []) ++ a) (codes "," ∷ u)
-behind_comma a u h =
-    let piece = tight_loose (44 ∷ 32 ∷ []) a (codes "," ∷ []) u (tight_both (44 ∷ []) (32 ∷ []) (codes "," ∷ []) [] tight_comma tight_space) h in
+behind_comma : (laws : TextLaws) (a : List ℕ) (u : Words) → Loose a u → Says ((44 ∷ 32 ∷ []) ++ a) (codes "," ∷ u)
+behind_comma laws a u h =
+    let piece = tight_loose (44 ∷ 32 ∷ []) a (codes "," ∷ []) u (tight_both (44 ∷ []) (32 ∷ []) (codes "," ∷ []) [] (tight_comma laws) tight_space) h in
     record { words_are = piece.words_are; apart = λ rest e. comma_apart (32 ∷ (a ++ rest)); plain = piece.plain }
 
-more_piece : (t : Table) (xs : List Arg) → Each (ReadsArg t) xs → Says (more_args t xs) (more_words t xs)
-more_piece t [] h = says_nothing
-more_piece t (x ∷ xs) h = says_both ((44 ∷ 32 ∷ []) ++ arg_text t x) (more_args t xs) (codes "," ∷ arg_words t x) (more_words t xs) (behind_comma (arg_text t x) (arg_words t x) (arg_piece t x h.0)) (more_piece t xs h.1)
+more_piece : (laws : TextLaws) (t : Table) (xs : List Arg) → Each (ReadsArg t) xs → Says (more_args t xs) (more_words t xs)
+more_piece laws t [] h = laws.spelled.pieces.says_nothing
+more_piece laws t (x ∷ xs) h = laws.spelled.pieces.says_both ((44 ∷ 32 ∷ []) ++ arg_text t x) (more_args t xs) (codes "," ∷ arg_words t x) (more_words t xs) (behind_comma laws (arg_text t x) (arg_words t x) (arg_piece laws t x h.0)) (more_piece laws t xs h.1)
 
-args_piece : (t : Table) (xs : List Arg) → Each (ReadsArg t) xs → Loose (args_text t xs) (args_words t xs)
+args_piece : (laws : TextLaws) (t : Table) (xs : List Arg) → Each (ReadsArg t) xs → Loose (args_text t xs) (args_words t xs)
 unfolding args_text
-args_piece t [] h = loosely [] [] tight_nothing
-args_piece t (x ∷ xs) h = loose_says (arg_text t x) (more_args t xs) (arg_words t x) (more_words t xs) (arg_piece t x h.0) (more_piece t xs h.1)
+args_piece laws t [] h = loosely [] [] tight_nothing
+args_piece laws t (x ∷ xs) h = loose_says (arg_text t x) (more_args t xs) (arg_words t x) (more_words t xs) (arg_piece laws t x h.0) (more_piece laws t xs h.1)
 
 -- ---- boxes
 
@@ -239,14 +234,14 @@ box_words (b ∷ bs) = box_text b ∷ more_box_words bs
 abbrev pub Small : BoxId → Type 0
 Small b = b.number < 2 ^ 32
 
-more_boxes_piece : (bs : List BoxId) → Each Small bs → Says (more_boxes bs) (more_box_words bs)
-more_boxes_piece [] h = says_nothing
-more_boxes_piece (b ∷ bs) h = says_both ((44 ∷ 32 ∷ []) ++ box_text b) (more_boxes bs) (codes "," ∷ box_text b ∷ []) (more_box_words bs) (behind_comma (box_text b) (box_text b ∷ []) (loose_word (box_text b) (box_is_word b h.0))) (more_boxes_piece bs h.1)
+more_boxes_piece : (laws : TextLaws) (bs : List BoxId) → Each Small bs → Says (more_boxes bs) (more_box_words bs)
+more_boxes_piece laws [] h = laws.spelled.pieces.says_nothing
+more_boxes_piece laws (b ∷ bs) h = laws.spelled.pieces.says_both ((44 ∷ 32 ∷ []) ++ box_text b) (more_boxes bs) (codes "," ∷ box_text b ∷ []) (more_box_words bs) (behind_comma laws (box_text b) (box_text b ∷ []) (loose_word laws (box_text b) (box_is_word laws b h.0))) (more_boxes_piece laws bs h.1)
 
-pub boxes_piece : (bs : List BoxId) → Each Small bs → Loose (boxes_text bs) (box_words bs)
+pub boxes_piece : (laws : TextLaws) (bs : List BoxId) → Each Small bs → Loose (boxes_text bs) (box_words bs)
 unfolding boxes_text
-boxes_piece [] h = loosely [] [] tight_nothing
-boxes_piece (b ∷ bs) h = loose_says (box_text b) (more_boxes bs) (box_text b ∷ []) (more_box_words bs) (loose_word (box_text b) (box_is_word b h.0)) (more_boxes_piece bs h.1)
+boxes_piece laws [] h = loosely [] [] tight_nothing
+boxes_piece laws (b ∷ bs) h = loose_says (box_text b) (more_boxes bs) (box_text b ∷ []) (more_box_words bs) (loose_word laws (box_text b) (box_is_word laws b h.0)) (more_boxes_piece laws bs h.1)
 
 -- ---- descrs
 
@@ -278,33 +273,33 @@ cite_words xs None = []
 cite_words [] (Some n) = codes "descr" ∷ codes "=" ∷ n ∷ []
 cite_words (x ∷ xs) (Some n) = codes "," ∷ codes "descr" ∷ codes "=" ∷ n ∷ []
 
-described : (n : List ℕ) → is_name n ≡ true → Loose (codes "descr=" ++ n) (codes "descr" ∷ codes "=" ∷ n ∷ [])
-described n is = tight_loose (codes "descr=") n (codes "descr" ∷ codes "=" ∷ []) (n ∷ []) (loose_tight (codes "descr") (61 ∷ []) (codes "descr" ∷ []) (codes "=" ∷ []) (loose_word (codes "descr") key_descr) tight_equals equals_apart) (loose_word n (name_is_word n is))
+described : (laws : TextLaws) (n : List ℕ) → is_name n ≡ true → Loose (codes "descr=" ++ n) (codes "descr" ∷ codes "=" ∷ n ∷ [])
+described laws n is = tight_loose (codes "descr=") n (codes "descr" ∷ codes "=" ∷ []) (n ∷ []) (loose_tight (codes "descr") (61 ∷ []) (codes "descr" ∷ []) (codes "=" ∷ []) (loose_word laws (codes "descr") key_descr) (tight_equals laws) equals_apart) (loose_word laws n (laws.spelled.spelling.name_is_word n is))
 
-comma_says : (n : List ℕ) → is_name n ≡ true → Says (cited_text true n) (codes "," ∷ codes "descr" ∷ codes "=" ∷ n ∷ [])
+comma_says : (laws : TextLaws) (n : List ℕ) → is_name n ≡ true → Says (cited_text true n) (codes "," ∷ codes "descr" ∷ codes "=" ∷ n ∷ [])
 unfolding cited_text
-comma_says n is = behind_comma (codes "descr=" ++ n) (codes "descr" ∷ codes "=" ∷ n ∷ []) (described n is)
+comma_says laws n is = behind_comma laws (codes "descr=" ++ n) (codes "descr" ∷ codes "=" ∷ n ∷ []) (described laws n is)
 
 -- a bracket, arguments and a descr
-cited_piece : (t : Table) (a : List ℕ) (u : Words) (xs : List Arg) (o : Option (List ℕ)) → Tight a u → Each (ReadsArg t) xs → NameOrNone o → Loose ((a ++ args_text t xs) ++ cite_text (nat_lt 0 (length xs)) o) ((u ++ args_words t xs) ++ cite_words xs o)
+cited_piece : (laws : TextLaws) (t : Table) (a : List ℕ) (u : Words) (xs : List Arg) (o : Option (List ℕ)) → Tight a u → Each (ReadsArg t) xs → NameOrNone o → Loose ((a ++ args_text t xs) ++ cite_text (nat_lt 0 (length xs)) o) ((u ++ args_words t xs) ++ cite_words xs o)
 unfolding args_text cited_text
-cited_piece t a u xs None h i j =
-    let piece = tight_loose a (args_text t xs) u (args_words t xs) h (args_piece t xs i) in
+cited_piece laws t a u xs None h i j =
+    let piece = tight_loose a (args_text t xs) u (args_words t xs) h (args_piece laws t xs i) in
     let e : a ++ args_text t xs ≡ (a ++ args_text t xs) ++ [] = sym (append-nil (a ++ args_text t xs)) in
     let f : u ++ args_words t xs ≡ (u ++ args_words t xs) ++ [] = sym (append-nil (u ++ args_words t xs)) in
     subst (λ (x : List ℕ). Loose x ((u ++ args_words t xs) ++ [])) e (subst (λ (x : Words). Loose (a ++ args_text t xs) x) f piece)
-cited_piece t a u [] (Some n) h i j =
-    let piece = tight_loose a (codes "descr=" ++ n) u (codes "descr" ∷ codes "=" ∷ n ∷ []) h (described n j) in
+cited_piece laws t a u [] (Some n) h i j =
+    let piece = tight_loose a (codes "descr=" ++ n) u (codes "descr" ∷ codes "=" ∷ n ∷ []) h (described laws n j) in
     let e : a ≡ a ++ [] = sym (append-nil a) in
     let f : u ≡ u ++ [] = sym (append-nil u) in
     subst (λ (x : List ℕ). Loose (x ++ (codes "descr=" ++ n)) ((u ++ []) ++ codes "descr" ∷ codes "=" ∷ n ∷ [])) e (subst (λ (x : Words). Loose (a ++ (codes "descr=" ++ n)) (x ++ codes "descr" ∷ codes "=" ∷ n ∷ [])) f piece)
-cited_piece t a u (x ∷ xs) (Some n) h i j =
+cited_piece laws t a u (x ∷ xs) (Some n) h i j =
     let some : nat_lt 0 (length (x ∷ xs)) ≡ true = lt-ltb 0 (length (x ∷ xs)) (omega arith) in
-    let piece = loose_says (a ++ args_text t (x ∷ xs)) (cited_text true n) (u ++ args_words t (x ∷ xs)) (codes "," ∷ codes "descr" ∷ codes "=" ∷ n ∷ []) (tight_loose a (args_text t (x ∷ xs)) u (args_words t (x ∷ xs)) h (args_piece t (x ∷ xs) i)) (comma_says n j) in
+    let piece = loose_says (a ++ args_text t (x ∷ xs)) (cited_text true n) (u ++ args_words t (x ∷ xs)) (codes "," ∷ codes "descr" ∷ codes "=" ∷ n ∷ []) (tight_loose a (args_text t (x ∷ xs)) u (args_words t (x ∷ xs)) h (args_piece laws t (x ∷ xs) i)) (comma_says laws n j) in
     subst (λ (b : Bool). Loose ((a ++ args_text t (x ∷ xs)) ++ cite_text b (Some n)) ((u ++ args_words t (x ∷ xs)) ++ codes "," ∷ codes "descr" ∷ codes "=" ∷ n ∷ [])) (sym some) piece
 
-pub descr_piece : (t : Table) (a : List ℕ) (u : Words) (xs : List Arg) (d : Descr) → Tight a u → Each (ReadsArg t) xs → NameOrNone (cited t d) → Loose ((a ++ args_text t xs) ++ descr_text t (nat_lt 0 (length xs)) d) ((u ++ args_words t xs) ++ cite_words xs (cited t d))
-descr_piece t a u xs d h i j = subst (λ (x : List ℕ). Loose ((a ++ args_text t xs) ++ x) ((u ++ args_words t xs) ++ cite_words xs (cited t d))) (sym (descr_cites t (nat_lt 0 (length xs)) d)) (cited_piece t a u xs (cited t d) h i j)
+pub descr_piece : (laws : TextLaws) (t : Table) (a : List ℕ) (u : Words) (xs : List Arg) (d : Descr) → Tight a u → Each (ReadsArg t) xs → NameOrNone (cited t d) → Loose ((a ++ args_text t xs) ++ descr_text t (nat_lt 0 (length xs)) d) ((u ++ args_words t xs) ++ cite_words xs (cited t d))
+descr_piece laws t a u xs d h i j = subst (λ (x : List ℕ). Loose ((a ++ args_text t xs) ++ x) ((u ++ args_words t xs) ++ cite_words xs (cited t d))) (sym (descr_cites t (nat_lt 0 (length xs)) d)) (cited_piece laws t a u xs (cited t d) h i j)
 
 -- ---- frames
 
@@ -315,24 +310,24 @@ slots_are_args : (t : Table) (xs : List Arg) → Each (ReadsSlot t) xs → Each 
 slots_are_args t [] h = tt
 slots_are_args t (x ∷ xs) h = (slot_is_arg t x h.0, slots_are_args t xs h.1)
 
-frame_piece : (t : Table) (seen : List BoxId) (f : Frame) → ReadsFrame t seen f → Tight (frame_text t f) (frame_words t f)
+frame_piece : (laws : TextLaws) (t : Table) (seen : List BoxId) (f : Frame) → ReadsFrame t seen f → Tight (frame_text t f) (frame_words t f)
 unfolding frame_text
-frame_piece t seen f h =
+frame_piece laws t seen f h =
     let w = frame_word f.name f.pc in
-    let head = bracketed w (w ∷ []) (loose_word w (frame_is_word f.name f.pc h.name h.pc)) in
-    ended ((w ++ 91 ∷ []) ++ args_text t f.slots) ((w ∷ codes "[" ∷ []) ++ args_words t f.slots) (tight_loose (w ++ 91 ∷ []) (args_text t f.slots) (w ∷ codes "[" ∷ []) (args_words t f.slots) head (args_piece t f.slots (slots_are_args t f.slots h.slots)))
+    let head = bracketed laws w (w ∷ []) (loose_word laws w (frame_is_word laws f.name f.pc h.name h.pc)) in
+    ended laws ((w ++ 91 ∷ []) ++ args_text t f.slots) ((w ∷ codes "[" ∷ []) ++ args_words t f.slots) (tight_loose (w ++ 91 ∷ []) (args_text t f.slots) (w ∷ codes "[" ∷ []) (args_words t f.slots) head (args_piece laws t f.slots (slots_are_args t f.slots h.slots)))
 
 abbrev pub snapshot_words : Table → List Frame → Words
 snapshot_words t fs = flat_map (λ f. frame_words t f) fs
 
-frames_piece : (t : Table) (seen : List BoxId) (fs : List Frame) → Each (ReadsFrame t seen) fs → Tight (flat_map (λ g. frame_text t g) fs) (snapshot_words t fs)
-frames_piece t seen [] h = tight_nothing
-frames_piece t seen (f ∷ fs) h = tight_both (frame_text t f) (flat_map (λ g. frame_text t g) fs) (frame_words t f) (snapshot_words t fs) (frame_piece t seen f h.0) (frames_piece t seen fs h.1)
+frames_piece : (laws : TextLaws) (t : Table) (seen : List BoxId) (fs : List Frame) → Each (ReadsFrame t seen) fs → Tight (flat_map (λ g. frame_text t g) fs) (snapshot_words t fs)
+frames_piece laws t seen [] h = tight_nothing
+frames_piece laws t seen (f ∷ fs) h = tight_both (frame_text t f) (flat_map (λ g. frame_text t g) fs) (frame_words t f) (snapshot_words t fs) (frame_piece laws t seen f h.0) (frames_piece laws t seen fs h.1)
 
-pub snapshot_piece : (t : Table) (seen : List BoxId) (fs : List Frame) → Each (ReadsFrame t seen) fs → Tight (snapshot_text t fs) (snapshot_words t fs)
+pub snapshot_piece : (laws : TextLaws) (t : Table) (seen : List BoxId) (fs : List Frame) → Each (ReadsFrame t seen) fs → Tight (snapshot_text t fs) (snapshot_words t fs)
 unfolding snapshot_text
-snapshot_piece t seen [] h = tight_nothing
-snapshot_piece t seen (f ∷ fs) h = tight_both (32 ∷ []) (flat_map (λ g. frame_text t g) (f ∷ fs)) [] (snapshot_words t (f ∷ fs)) tight_space (frames_piece t seen (f ∷ fs) h)
+snapshot_piece laws t seen [] h = tight_nothing
+snapshot_piece laws t seen (f ∷ fs) h = tight_both (32 ∷ []) (flat_map (λ g. frame_text t g) (f ∷ fs)) [] (snapshot_words t (f ∷ fs)) tight_space (frames_piece laws t seen (f ∷ fs) h)
 
 -- ---- results
 
@@ -340,7 +335,7 @@ abbrev pub made_words : Option BoxId → Words
 made_words None = []
 made_words (Some b) = box_text b ∷ codes "=" ∷ []
 
-pub made_piece : (o : Option BoxId) → ReadsResult o → Tight (made_text o) (made_words o)
+pub made_piece : (laws : TextLaws) (o : Option BoxId) → ReadsResult o → Tight (made_text o) (made_words o)
 unfolding made_text
-made_piece None h = tight_nothing
-made_piece (Some b) h = loose_tight (box_text b) (codes " = ") (box_text b ∷ []) (codes "=" ∷ []) (loose_word (box_text b) (box_is_word b h)) (tight_both (32 ∷ 61 ∷ []) (32 ∷ []) (codes "=" ∷ []) [] (tight_both (32 ∷ []) (61 ∷ []) [] (codes "=" ∷ []) tight_space tight_equals) tight_space) (λ rest. space_apart (61 ∷ 32 ∷ rest))
+made_piece laws None h = tight_nothing
+made_piece laws (Some b) h = loose_tight (box_text b) (codes " = ") (box_text b ∷ []) (codes "=" ∷ []) (loose_word laws (box_text b) (box_is_word laws b h)) (tight_both (32 ∷ 61 ∷ []) (32 ∷ []) (codes "=" ∷ []) [] (tight_both (32 ∷ []) (61 ∷ []) [] (codes "=" ∷ []) tight_space (tight_equals laws)) tight_space) (λ rest. space_apart (61 ∷ 32 ∷ rest))

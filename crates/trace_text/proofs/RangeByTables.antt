@@ -13,9 +13,9 @@ use Rattle.descr_table.specs.Reading.{table_at}
 use Rattle.trace_text.specs.declared.fault.TextFault.{TextFault}
 use Rattle.trace_text.specs.Faults.{Gives}
 use Rattle.trace_text.specs.Sections.{set_at}
-use Rattle.descr_table.proofs.LinesKept.{table_in_range}
 use Rattle.trace_text.proofs.FitDrafts.{in_range}
 use Rattle.trace_text.proofs.TableOf.{table_of_text}
+use Rattle.trace_text.proofs.Below.{TextLaws}
 
 nothing_in_range : IsTableInRange nothing
 nothing_in_range = record {
@@ -45,9 +45,9 @@ range_by_tables f text x e = in_range text x e (elim (table_of_text text x e) [
 ])
 
 -- a set that a text stands for is in range
-pub set_in_range : (text : List ℕ) (x : TraceSet × ℕ) → set_at text ≡ Ok x → IsInRange x.0
-set_in_range text x e = range_by_tables table_in_range text x e
+pub set_in_range : (laws : TextLaws) (text : List ℕ) (x : TraceSet × ℕ) → set_at text ≡ Ok x → IsInRange x.0
+set_in_range laws text x e = range_by_tables laws.tables_in_range text x e
 
-pub read_in_range : (r : Result (TraceSet × ℕ) TextFault) (text : List ℕ) → Gives r (set_at text) → IfOk r (λ x. IsInRange x.0)
-read_in_range (Ok x) text h = set_in_range text x h
-read_in_range (Err e) text h = tt
+pub read_in_range : (laws : TextLaws) (r : Result (TraceSet × ℕ) TextFault) (text : List ℕ) → Gives r (set_at text) → IfOk r (λ x. IsInRange x.0)
+read_in_range laws (Ok x) text h = set_in_range laws text x h
+read_in_range laws (Err e) text h = tt

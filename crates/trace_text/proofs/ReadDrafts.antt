@@ -2,6 +2,7 @@
 use Rattle.std.proofs.Common.{◌≡◌, ℕ, suc, ◌+◌, ◌-◌, ◌<◌, ◌≤◌, ◌^◌, min, Bool, true, false, cond, List, [], ◌∷◌, ◌++◌, length, map, Option, Some, None, Result, Ok, Err, refl, sym, ap, subst, ◌∙◌, arith}
 use Rattle.std.specs.Prelude.{codes}
 use Rattle.std.specs.Str.{bytes_eq}
+use Rattle.lists.proofs.Eaches.{each_push}
 use Rattle.text_lines.specs.Words.{is_name, words, is_plain}
 use Rattle.text_lines.specs.Reading.{is_skipped}
 use Rattle.trace_ops.specs.declared.code.OpCode.{OpCode}
@@ -41,6 +42,7 @@ use Rattle.trace_text.proofs.SpelledHeading.{heading_back}
 use Rattle.trace_text.proofs.FitDrafts.{length-map, inputs_count, open_trace}
 use Rattle.trace_text.proofs.ReadSets.{Each, ReadsOp, ReadsOps, ReadsOrigin, ReadsTrace}
 use Rattle.trace_text.proofs.ReadLines.{SlotReads, FrameReads, op_reads, snapshot_reads, guard_reads}
+use Rattle.trace_text.proofs.Below.{TextLaws}
 
 -- the boxes behind operations
 abbrev seen_after : List BoxId → List Op → List BoxId
@@ -94,10 +96,10 @@ counted_small : (n : ℕ) (b : Bool) → n < 2 ^ 32 → cond b (min (n + 1) (2 ^
 counted_small n true lt = omega arith
 counted_small n false lt = lt
 
-with_op_good : (t : Table) (d : Draft) (c : OpCode) (ws : List (List ℕ)) (l : Line) → code_of l.name ≡ Some c → op_at (names_of t) ws ≡ Some l → refusal (names_of t) d.seen (length d.ops) l ≡ None → Each (ReadsTrace t) d.done → IsOpen t d → ReadsDraft t (with_op c (op_of (names_of t) d.name d.guards c l) d)
-with_op_good t d c ws l named e r done h =
+with_op_good : (laws : TextLaws) (t : Table) (d : Draft) (c : OpCode) (ws : List (List ℕ)) (l : Line) → code_of l.name ≡ Some c → op_at (names_of t) ws ≡ Some l → refusal (names_of t) d.seen (length d.ops) l ≡ None → Each (ReadsTrace t) d.done → IsOpen t d → ReadsDraft t (with_op c (op_of (names_of t) d.name d.guards c l) d)
+with_op_good laws t d c ws l named e r done h =
     let op : Op = op_of (names_of t) d.name d.guards c l in
-    let here : ReadsOp t d.seen (length d.ops) op = op_reads t d.seen (length d.ops) d.name d.guards c ws l h.trace.name h.guards named e r in
+    let here : ReadsOp t d.seen (length d.ops) op = op_reads laws t d.seen (length d.ops) d.name d.guards c ws l h.trace.name h.guards named e r in
     let at : length d.ops ≡ 0 + length d.ops = omega arith in
     let moved : ReadsOp t (seen_after (with_boxes [] d.inputs) d.ops) (0 + length d.ops) op = subst (λ (n : ℕ). ReadsOp t (seen_after (with_boxes [] d.inputs) d.ops) n op) at (subst (λ (s : List BoxId). ReadsOp t s (length d.ops) op) h.seen here) in
     record {
@@ -109,9 +111,9 @@ with_op_good t d c ws l named e r done h =
       };
     }
 
-put_good : (t : Table) (d : Draft) (o : Option OpCode) (ws : List (List ℕ)) (l : Line) → code_of l.name ≡ o → op_at (names_of t) ws ≡ Some l → refusal (names_of t) d.seen (length d.ops) l ≡ None → ReadsDraft t d → IsOpen t d → ReadsDraft t (put_code (names_of t) l d o)
-put_good t d None ws l named e r h i = h
-put_good t d (Some c) ws l named e r h i = with_op_good t d c ws l named e r h.done i
+put_good : (laws : TextLaws) (t : Table) (d : Draft) (o : Option OpCode) (ws : List (List ℕ)) (l : Line) → code_of l.name ≡ o → op_at (names_of t) ws ≡ Some l → refusal (names_of t) d.seen (length d.ops) l ≡ None → ReadsDraft t d → IsOpen t d → ReadsDraft t (put_code (names_of t) l d o)
+put_good laws t d None ws l named e r h i = h
+put_good laws t d (Some c) ws l named e r h i = with_op_good laws t d c ws l named e r h.done i
 
 labelled_good : (t : Table) (d : Draft) → Each (ReadsTrace t) d.done → IsOpen t d → ReadsDraft t (labelled d)
 labelled_good t d done h = record {
@@ -126,38 +128,34 @@ labelled_good t d done h = record {
 label_good : (t : Table) (n : ℕ) (d : Draft) (l : Line) → ReadsDraft t d → IsOpen t d → Good t (read_label n d l)
 label_good t n d l h i = elim (is_label d l) as (λ b. Good t (cond b (Ok (labelled d)) (Err (fault.Syntax n)))) [ true ↦ labelled_good t d h.done i | false ↦ tt ]
 
-op_good : (t : Table) (n : ℕ) (d : Draft) (ws : List (List ℕ)) (o : Option Line) → op_at (names_of t) ws ≡ o → ReadsDraft t d → IsOpen t d → Good t (read_op (names_of t) n d o)
-op_good t n d ws None e h i = tt
-op_good t n d ws (Some l) e h i =
+op_good : (laws : TextLaws) (t : Table) (n : ℕ) (d : Draft) (ws : List (List ℕ)) (o : Option Line) → op_at (names_of t) ws ≡ o → ReadsDraft t d → IsOpen t d → Good t (read_op (names_of t) n d o)
+op_good laws t n d ws None e h i = tt
+op_good laws t n d ws (Some l) e h i =
     elim (bytes_eq l.name (codes "label")) as (λ b. Good t (cond b (read_label n d l) (unless n (put_line (names_of t) l d) (refusal (names_of t) d.seen (length d.ops) l)))) [
       | true ↦ label_good t n d l h i
-      | false ↦ unless_good t n (put_line (names_of t) l d) (refusal (names_of t) d.seen (length d.ops) l) (λ r. put_good t d (code_of l.name) ws l refl e r h i)
+      | false ↦ unless_good t n (put_line (names_of t) l d) (refusal (names_of t) d.seen (length d.ops) l) (λ r. put_good laws t d (code_of l.name) ws l refl e r h i)
     ]
 
 -- ---- headings
 
-each_last : {X : Type 0} (P : X → Type 0) (xs : List X) (x : X) → Each P xs → P x → Each P (xs ++ x ∷ [])
-each_last P [] x h p = (p, tt)
-each_last P (y ∷ ys) x h p = (h.0, each_last P ys x h.1 p)
-
 closed_by : (t : Table) (p : Phase) (d : Draft) → Each (ReadsTrace t) d.done → Stands t p d → Each (ReadsTrace t) (cond (is_open p) (closed d) d).done
 closed_by t phase.Before d done h = done
 closed_by t phase.Inputs d done h = done
-closed_by t phase.Label d done h = each_last (ReadsTrace t) d.done (open_trace d) done h.trace
-closed_by t phase.Ops d done h = each_last (ReadsTrace t) d.done (open_trace d) done h.trace
+closed_by t phase.Label d done h = each_push (ReadsTrace t) d.done (open_trace d) done h.trace
+closed_by t phase.Ops d done h = each_push (ReadsTrace t) d.done (open_trace d) done h.trace
 
 closed_good : (t : Table) (d : Draft) → ReadsDraft t d → Each (ReadsTrace t) (closed_if d).done
 closed_good t d h = closed_by t d.phase d h.done h.stands
 
-from_reads : (o : Origin) (ws : List (List ℕ)) → SpellsOrigin ws o → ReadsOrigin o
-from_reads origin.Loop ws h = tt
-from_reads (origin.Bridge parent guard) ws h = guard_reads h.0 (origin.Bridge parent guard) h.2
+from_reads : (laws : TextLaws) (o : Origin) (ws : List (List ℕ)) → SpellsOrigin ws o → ReadsOrigin o
+from_reads laws origin.Loop ws h = tt
+from_reads laws (origin.Bridge parent guard) ws h = guard_reads laws h.0 (origin.Bridge parent guard) h.2
 
-heading_good : (t : Table) (n : ℕ) (d : Draft) (ws : List (List ℕ)) (o : Option Heading) → heading_at ws ≡ o → ReadsDraft t d → Good t (read_heading n d o)
-heading_good t n d ws None e h = tt
-heading_good t n d ws (Some x) e h = unless_good t n (begun x (closed_if d)) (heading_refusal d) (λ r.
+heading_good : (laws : TextLaws) (t : Table) (n : ℕ) (d : Draft) (ws : List (List ℕ)) (o : Option Heading) → heading_at ws ≡ o → ReadsDraft t d → Good t (read_heading n d o)
+heading_good laws t n d ws None e h = tt
+heading_good laws t n d ws (Some x) e h = unless_good t n (begun x (closed_if d)) (heading_refusal d) (λ r.
     let s = heading_back ws x e in
-    record { done = closed_good t d h; stands = record { name = s.2; from = from_reads x.origin s.0 s.3; ops = refl; seen = refl; guards = omega arith } })
+    record { done = closed_good t d h; stands = record { name = s.2; from = from_reads laws x.origin s.0 s.3; ops = refl; seen = refl; guards = omega arith } })
 
 -- ---- inputs
 
@@ -186,11 +184,11 @@ inputs_put t d bs small few done h = record {
   };
 }
 
-inputs_good : (t : Table) (n : ℕ) (d : Draft) (ws : List (List ℕ)) (o : Option Line) → inputs_at (names_of t) ws ≡ o → ReadsDraft t d → IsHeaded d → Good t (read_inputs n d o)
-inputs_good t n d ws None e h i = tt
-inputs_good t n d ws (Some l) e h i =
+inputs_good : (laws : TextLaws) (t : Table) (n : ℕ) (d : Draft) (ws : List (List ℕ)) (o : Option Line) → inputs_at (names_of t) ws ≡ o → ReadsDraft t d → IsHeaded d → Good t (read_inputs n d o)
+inputs_good laws t n d ws None e h i = tt
+inputs_good laws t n d ws (Some l) e h i =
     let vs : List Value = slots_of l.frames in
-    let reads : Each (SlotReads t) vs = first_slots t l.frames (snapshot_reads t ws l.frames (inputs_back (names_of t) ws l e)) in
+    let reads : Each (SlotReads t) vs = first_slots t l.frames (snapshot_reads laws t ws l.frames (inputs_back (names_of t) ws l e)) in
     elim (is_ended l.place) as (λ b. Good t (cond b (read_values n d vs) (Err (fault.Syntax n)))) [
       | true ↦ unless_good t n (put_inputs (map input_of vs) d) (inputs_refusal d.origin vs) (λ r.
           let few : length (map input_of vs) ≤ most_inputs d.origin = omega (arith, length-map input_of vs, inputs_count d.origin vs r) in
@@ -200,30 +198,30 @@ inputs_good t n d ws (Some l) e h i =
 
 -- ---- lines
 
-body_good : (t : Table) (n : ℕ) (d : Draft) (ws : List (List ℕ)) → ReadsDraft t d → IsOpen t d → Good t (read_body (names_of t) n d ws)
-body_good t n d ws h i =
+body_good : (laws : TextLaws) (t : Table) (n : ℕ) (d : Draft) (ws : List (List ℕ)) → ReadsDraft t d → IsOpen t d → Good t (read_body (names_of t) n d ws)
+body_good laws t n d ws h i =
     elim (has_key (codes "debug_merge_point") ws) as (λ b. Good t (cond b (cond (is_merge ws) (Ok d) (Err (fault.Syntax n))) (read_op (names_of t) n d (op_at (names_of t) ws)))) [
       | true ↦ elim (is_merge ws) as (λ b. Good t (cond b (Ok d) (Err (fault.Syntax n)))) [ true ↦ h | false ↦ tt ]
-      | false ↦ op_good t n d ws (op_at (names_of t) ws) refl h i
+      | false ↦ op_good laws t n d ws (op_at (names_of t) ws) refl h i
     ]
 
-in_good : (t : Table) (n : ℕ) (p : Phase) (d : Draft) (ws : List (List ℕ)) → ReadsDraft t d → Stands t p d → Good t (read_in (names_of t) n p d ws)
-in_good t n phase.Before d ws h i = tt
-in_good t n phase.Inputs d ws h i = inputs_good t n d ws (inputs_at (names_of t) ws) refl h i
-in_good t n phase.Label d ws h i = body_good t n d ws h i
-in_good t n phase.Ops d ws h i = body_good t n d ws h i
+in_good : (laws : TextLaws) (t : Table) (n : ℕ) (p : Phase) (d : Draft) (ws : List (List ℕ)) → ReadsDraft t d → Stands t p d → Good t (read_in (names_of t) n p d ws)
+in_good laws t n phase.Before d ws h i = tt
+in_good laws t n phase.Inputs d ws h i = inputs_good laws t n d ws (inputs_at (names_of t) ws) refl h i
+in_good laws t n phase.Label d ws h i = body_good laws t n d ws h i
+in_good laws t n phase.Ops d ws h i = body_good laws t n d ws h i
 
-line_good : (t : Table) (n : ℕ) (line : List ℕ) (d : Draft) → ReadsDraft t d → Good t (read_line (names_of t) n line d)
+line_good : (laws : TextLaws) (t : Table) (n : ℕ) (line : List ℕ) (d : Draft) → ReadsDraft t d → Good t (read_line (names_of t) n line d)
 unfolding read_line
-line_good t n line d h =
+line_good laws t n line d h =
     let said : Result Draft TextFault = cond (is_section (words line)) (read_heading n d (heading_at (words line))) (read_in (names_of t) n d.phase d (words line)) in
     let told : Result Draft TextFault = cond (is_skipped (words line)) (Ok d) said in
     elim (is_plain line) as (λ b. Good t (cond b told (Err (fault.Syntax n)))) [
       | true ↦ elim (is_skipped (words line)) as (λ b. Good t (cond b (Ok d) said)) [
         | true ↦ h
         | false ↦ elim (is_section (words line)) as (λ b. Good t (cond b (read_heading n d (heading_at (words line))) (read_in (names_of t) n d.phase d (words line)))) [
-          | true ↦ heading_good t n d (words line) (heading_at (words line)) refl h
-          | false ↦ in_good t n d.phase d (words line) h h.stands
+          | true ↦ heading_good laws t n d (words line) (heading_at (words line)) refl h
+          | false ↦ in_good laws t n d.phase d (words line) h h.stands
         ]
       ]
       | false ↦ tt
@@ -232,5 +230,5 @@ line_good t n line d h =
 -- ---- the set
 
 -- the traces of a set that a text stands for
-pub traces_read : (text : List ℕ) (x : TraceSet × ℕ) → set_at text ≡ Ok x → Each (ReadsTrace x.0.table) x.0.traces
-traces_read text x e = set_keeps ReadsDraft (λ (t : Table). Each (ReadsTrace t)) (λ t. record { begins = record { done = tt; stands = tt }; line = line_good t; ends = closed_good t }) text x e
+pub traces_read : (laws : TextLaws) (text : List ℕ) (x : TraceSet × ℕ) → set_at text ≡ Ok x → Each (ReadsTrace x.0.table) x.0.traces
+traces_read laws text x e = set_keeps ReadsDraft (λ (t : Table). Each (ReadsTrace t)) (λ t. record { begins = record { done = tt; stands = tt }; line = line_good laws t; ends = closed_good t }) text x e

@@ -3,14 +3,15 @@ use Rattle.std.proofs.Common.{◌≡◌, ℕ, ℤ, ◌+◌, ◌-◌, ◌<◌, �
 use Rattle.std.specs.Prelude.{codes, position, nat_eq, nat_lt, nat_le, not, ◌&&◌, is_some, unwrap_or}
 use Rattle.std.specs.Str.{bytes_eq}
 use Rattle.std.specs.List.{list_any, list_all}
-use Rattle.std.proofs.lemmas.Bool.{leb-true}
+use Rattle.std.proofs.lemmas.Bool.{leb-true, or_parts, not-false}
 use lib.Signed.{mag}
 use Rattle.text_lines.specs.Words.{is_name, is_digit}
-use Rattle.text_lines.specs.Reading.{◌>>=◌}
+use Rattle.lists.specs.Binds.{◌>>=◌}
+use Rattle.lists.proofs.Options.{bind_some}
+use Rattle.lists.proofs.Bools.{cond_some}
 use Rattle.text_lines.specs.Numbers.{value_behind, decimal_behind, decimal_of, integer_of, is_short, letter_of, box_of}
 use Rattle.text_lines.specs.declared.number.Letter.{Letter}
 use Rattle.text_lines.specs.declared.number.Letter.TheVariants as letter
-use Rattle.text_lines.proofs.Integers.{integer_ranged}
 use Rattle.trace_ops.specs.declared.code.OpCode.{OpCode}
 use Rattle.trace_ops.specs.declared.facts.Part.{Part}
 use Rattle.trace_ops.specs.declared.facts.Part.TheVariants as part
@@ -41,26 +42,14 @@ use Rattle.trace_text.specs.Heading.{guard_name}
 use Rattle.trace_text.specs.Line.{op_at}
 use Rattle.trace_text.specs.Meaning.{box_id, arg_of, frame_of, framed, made_of, op_of, descr_of, descr_for, refusal, limits, differ, is_misframed, is_misplaced, has_float, has_unknown_name, any_value, is_unknown_box}
 use Rattle.trace_text.specs.Spelling.{MoreSlots, slots_end, slot_word, slot_object, SpellsSlots, no_slots, first_word, first_object, SpellsFrames, frames_end, one_frame, SpellsSnapshot, snapshot_framed, snapshot_plain, MoreArgs, args_end, args_descr, arg_word, arg_class, arg_object, SpellsArgs, no_args, descr_alone, begins_word, begins_class, begins_object, Parts, parts_of, SpellsLine, line_alone, line_made}
-use Rattle.trace_text.specs.Writing.{vtable_name, function_name}
-use Rattle.descr_table.specs.Writing.{prebuilt_name}
+use Rattle.descr_table.specs.Names.{vtable_name, function_name, prebuilt_name}
 use Rattle.trace_text.proofs.SpelledLine.{spelled_back}
 use Rattle.trace_text.proofs.KeyNames.{ClassKey, ObjectKey, DescrKey, descr_name, look_keyed, classes_keyed, objects_keyed, descrs_keyed}
 use Rattle.trace_text.proofs.ReadSets.{Each, Cites, ReadsArg, ReadsSlot, KnowsArg, NameOrNone, NamesDescr, ReadsDescr, ReadsResult, ReadsFrame, ReadsOp, ReadsOrigin}
-use Rattle.trace_text.proofs.FitDrafts.{none_first, both_not, not_more, length-map, passes}
+use Rattle.trace_text.proofs.FitDrafts.{none_first, not_more, length-map, passes}
+use Rattle.trace_text.proofs.Below.{TextLaws}
 
 -- ---- steps
-
-bind_some : {A B : Type 0} (o : Option A) (f : A → Option B) (y : B) → (o >>= f) ≡ Some y → (x : A) × (o ≡ Some x) × (f x ≡ Some y)
-bind_some None f y e = absurd cc
-bind_some (Some x) f y e = (x, refl, e)
-
-cond_some : {A : Type 0} (b : Bool) (o : Option A) (y : A) → cond b o None ≡ Some y → (b ≡ true) × (o ≡ Some y)
-cond_some true o y e = (refl, e)
-cond_some false o y e = absurd cc
-
-is_not : (b : Bool) → not b ≡ false → b ≡ true
-is_not true e = refl
-is_not false e = absurd cc
 
 each_map : {X Y : Type 0} (P : Y → Type 0) (f : X → Y) (xs : List X) → Each (λ (x : X). P (f x)) xs → Each P (map f xs)
 each_map P f [] h = tt
@@ -68,29 +57,19 @@ each_map P f (x ∷ xs) h = (h.0, each_map P f xs h.1)
 
 -- ---- numbers
 
-bounded : (a b : Bool) (limit v n : ℕ) → leb v limit ≡ b → cond (a && b) (Some v) None ≡ Some n → n ≤ limit
-bounded true true limit v n h e = let is : v ≡ n = cc in omega (arith, leb-true v limit h)
-bounded true false limit v n h e = absurd cc
-bounded false b limit v n h e = absurd cc
+small : (laws : TextLaws) (word : List ℕ) (n : ℕ) → decimal_of (2 ^ 32 - 1) word ≡ Some n → n < 2 ^ 32
+small laws word n e = omega (arith, laws.spelled.spelling.decimal_limit (2 ^ 32 - 1) word n e)
 
-decimal_bounded : (limit : ℕ) (word : List ℕ) (n : ℕ) → decimal_of limit word ≡ Some n → n ≤ limit
-unfolding decimal_of decimal_behind
-decimal_bounded limit [] n e = absurd cc
-decimal_bounded limit (c ∷ cs) n e = bounded (list_all is_digit (c ∷ cs)) (leb (value_behind 0 (c ∷ cs)) limit) limit (value_behind 0 (c ∷ cs)) n refl e
-
-small : (word : List ℕ) (n : ℕ) → decimal_of (2 ^ 32 - 1) word ≡ Some n → n < 2 ^ 32
-small word n e = omega (arith, decimal_bounded (2 ^ 32 - 1) word n e)
-
-box_small : (w : List ℕ) (x : Letter × ℕ) → box_of w ≡ Some x → x.1 < 2 ^ 32
+box_small : (laws : TextLaws) (w : List ℕ) (x : Letter × ℕ) → box_of w ≡ Some x → x.1 < 2 ^ 32
 unfolding box_of
-box_small [] x e = absurd cc
-box_small (c ∷ cs) x e =
+box_small laws [] x e = absurd cc
+box_small laws (c ∷ cs) x e =
     let p = bind_some (letter_of c) (λ l. decimal_of (2 ^ 32 - 1) cs >>= λ n. cond (is_short cs) (Some (l, n)) None) x e in
     let q = bind_some (decimal_of (2 ^ 32 - 1) cs) (λ n. cond (is_short cs) (Some (p.0, n)) None) x p.2 in
     let made : Letter × ℕ = (p.0, q.0) in
     let r = cond_some (is_short cs) (Some made) x q.2 in
     let pick : Option (Letter × ℕ) → Letter × ℕ = λ o. elim o [ None ↦ made | Some y ↦ y ] in
-    subst (λ (y : Letter × ℕ). y.1 < 2 ^ 32) (ap pick r.1) (small cs q.0 q.1)
+    subst (λ (y : Letter × ℕ). y.1 < 2 ^ 32) (ap pick r.1) (small laws cs q.0 q.1)
 
 abbrev ReadsHead : Head → Type 0
 ReadsHead head.Plain = Unit {0}
@@ -100,30 +79,30 @@ abbrev head_in : Head → Option Head → Head
 head_in other None = other
 head_in other (Some h) = h
 
-head_from : (cs : List ℕ) (h : Head) → name_and_pc cs ≡ Some h → ReadsHead h
+head_from : (laws : TextLaws) (cs : List ℕ) (h : Head) → name_and_pc cs ≡ Some h → ReadsHead h
 unfolding name_and_pc
-head_from cs h e =
+head_from laws cs h e =
     let p = bind_some (position (λ c. nat_eq c 58) cs) (λ i. cond (is_name (take i cs)) (decimal_of (2 ^ 32 - 1) (drop (i + 1) cs) >>= λ pc. Some (head.Named (take i cs) pc)) None) h e in
     let q = cond_some (is_name (take p.0 cs)) (decimal_of (2 ^ 32 - 1) (drop (p.0 + 1) cs) >>= λ pc. Some (head.Named (take p.0 cs) pc)) h p.2 in
     let r = bind_some (decimal_of (2 ^ 32 - 1) (drop (p.0 + 1) cs)) (λ pc. Some (head.Named (take p.0 cs) pc)) h q.1 in
-    subst ReadsHead (ap (head_in h) r.2) (q.0, small (drop (p.0 + 1) cs) r.0 r.1)
+    subst ReadsHead (ap (head_in h) r.2) (q.0, small laws (drop (p.0 + 1) cs) r.0 r.1)
 
-head_reads : (w : List ℕ) (h : Head) → frame_head w ≡ Some h → ReadsHead h
+head_reads : (laws : TextLaws) (w : List ℕ) (h : Head) → frame_head w ≡ Some h → ReadsHead h
 unfolding frame_head
-head_reads [] h e = absurd cc
-head_reads (c ∷ cs) h e = head_from cs h (cond_some (nat_eq c 64) (name_and_pc cs) h e).1
+head_reads laws [] h e = absurd cc
+head_reads laws (c ∷ cs) h e = head_from laws cs h (cond_some (nat_eq c 64) (name_and_pc cs) h e).1
 
 abbrev origin_in : Origin → Option Origin → Origin
 origin_in other None = other
 origin_in other (Some o) = o
 
-pub guard_reads : (w : List ℕ) (o : Origin) → guard_name w ≡ Some o → ReadsOrigin o
+pub guard_reads : (laws : TextLaws) (w : List ℕ) (o : Origin) → guard_name w ≡ Some o → ReadsOrigin o
 unfolding guard_name
-guard_reads w o e =
+guard_reads laws w o e =
     let p = bind_some (position (λ c. nat_eq c 47) w) (λ i. cond (is_name (take i w)) (decimal_of (2 ^ 32 - 1) (drop (i + 1) w) >>= λ k. Some (origin.Bridge (take i w) k)) None) o e in
     let q = cond_some (is_name (take p.0 w)) (decimal_of (2 ^ 32 - 1) (drop (p.0 + 1) w) >>= λ k. Some (origin.Bridge (take p.0 w) k)) o p.2 in
     let r = bind_some (decimal_of (2 ^ 32 - 1) (drop (p.0 + 1) w)) (λ k. Some (origin.Bridge (take p.0 w) k)) o q.1 in
-    subst ReadsOrigin (ap (origin_in o) r.2) (q.0, small (drop (p.0 + 1) w) r.0 r.1)
+    subst ReadsOrigin (ap (origin_in o) r.2) (q.0, small laws (drop (p.0 + 1) w) r.0 r.1)
 
 -- ---- values
 
@@ -148,13 +127,13 @@ box_reads P p (Some x) i v f g e = subst P (ap (value_in v) e) (p.of x.0 x.1 (f 
 box_reads P p None (Some z) v f g e = subst P (ap (value_in v) e) (p.constant z (g z refl))
 box_reads P p None None v f g e = absurd cc
 
-word_by : (P : Value → Type 0) → IsPlainly P → (b : Bool) (w : List ℕ) (v : Value) → cond b (Some value.Null) (box_or (box_of w) (integer_of w)) ≡ Some v → P v
-word_by P p true w v e = subst P (ap (value_in v) e) p.null
-word_by P p false w v e = box_reads P p (box_of w) (integer_of w) v (box_small w) (integer_ranged w) e
+word_by : (laws : TextLaws) (P : Value → Type 0) → IsPlainly P → (b : Bool) (w : List ℕ) (v : Value) → cond b (Some value.Null) (box_or (box_of w) (integer_of w)) ≡ Some v → P v
+word_by laws P p true w v e = subst P (ap (value_in v) e) p.null
+word_by laws P p false w v e = box_reads P p (box_of w) (integer_of w) v (box_small laws w) (λ z is. (laws.spelled.spelling.integer_fits w z is).sfits) e
 
-word_reads : (P : Value → Type 0) → IsPlainly P → (w : List ℕ) (v : Value) → plain_value w ≡ Some v → P v
+word_reads : (laws : TextLaws) (P : Value → Type 0) → IsPlainly P → (w : List ℕ) (v : Value) → plain_value w ≡ Some v → P v
 unfolding plain_value
-word_reads P p w v e = word_by P p (bytes_eq w (codes "NULL")) w v e
+word_reads laws P p w v e = word_by laws P p (bytes_eq w (codes "NULL")) w v e
 
 named_reads : (P : Value → Type 0) → IsPlainly P → (o : Option Arg) → ((a : Arg) → o ≡ Some a → P (value.Named a)) → P (named_value o)
 named_reads P p None f = p.unknown
@@ -199,7 +178,7 @@ slot_is_arg t (arg.Ptr k) h = h
 
 slots_plainly : (t : Table) → IsPlainly (SlotReads t)
 slots_plainly t = record {
-  of = λ b n lt. (omega (arith, number-box_id b n, lt), λ seen e. is_not (knows seen (box_id b n)) e);
+  of = λ b n lt. (omega (arith, number-box_id b n, lt), λ seen e. not-false (knows seen (box_id b n)) e);
   constant = λ z h. (h, λ seen e. tt);
   null = (tt, λ seen e. tt);
   unknown = (tt, λ seen e. tt);
@@ -207,7 +186,7 @@ slots_plainly t = record {
 
 args_plainly : (t : Table) → IsPlainly (ArgReads t)
 args_plainly t = record {
-  of = λ b n lt. (omega (arith, number-box_id b n, lt), λ seen e. is_not (knows seen (box_id b n)) e);
+  of = λ b n lt. (omega (arith, number-box_id b n, lt), λ seen e. not-false (knows seen (box_id b n)) e);
   constant = λ z h. (h, λ seen e. tt);
   null = (tt, λ seen e. tt);
   unknown = (tt, λ seen e. tt);
@@ -224,40 +203,40 @@ object_reads t n is = let h = slot_reads t n is in (slot_is_arg t (arg_of (named
 
 -- ---- lists of values, and lines
 
-more_slots_read : (t : Table) (ws rest : List (List ℕ)) (vs : List Value) → MoreSlots (names_of t) ws vs rest → Each (SlotReads t) vs
-more_slots_read t _ _ _ slots_end = tt
-more_slots_read t _ _ _ (slot_word {w} {v} {ws} {rest} {vs} e s) = (word_reads (SlotReads t) (slots_plainly t) w v e, more_slots_read t ws rest vs s)
-more_slots_read t _ _ _ (slot_object {n} {ws} {rest} {vs} e s) = (slot_reads t n e, more_slots_read t ws rest vs s)
+more_slots_read : (laws : TextLaws) (t : Table) (ws rest : List (List ℕ)) (vs : List Value) → MoreSlots (names_of t) ws vs rest → Each (SlotReads t) vs
+more_slots_read laws t _ _ _ slots_end = tt
+more_slots_read laws t _ _ _ (slot_word {w} {v} {ws} {rest} {vs} e s) = (word_reads laws (SlotReads t) (slots_plainly t) w v e, more_slots_read laws t ws rest vs s)
+more_slots_read laws t _ _ _ (slot_object {n} {ws} {rest} {vs} e s) = (slot_reads t n e, more_slots_read laws t ws rest vs s)
 
-slots_read : (t : Table) (ws rest : List (List ℕ)) (vs : List Value) → SpellsSlots (names_of t) ws vs rest → Each (SlotReads t) vs
-slots_read t _ _ _ no_slots = tt
-slots_read t _ _ _ (first_word {w} {v} {ws} {rest} {vs} e s) = (word_reads (SlotReads t) (slots_plainly t) w v e, more_slots_read t ws rest vs s)
-slots_read t _ _ _ (first_object {n} {ws} {rest} {vs} e s) = (slot_reads t n e, more_slots_read t ws rest vs s)
+slots_read : (laws : TextLaws) (t : Table) (ws rest : List (List ℕ)) (vs : List Value) → SpellsSlots (names_of t) ws vs rest → Each (SlotReads t) vs
+slots_read laws t _ _ _ no_slots = tt
+slots_read laws t _ _ _ (first_word {w} {v} {ws} {rest} {vs} e s) = (word_reads laws (SlotReads t) (slots_plainly t) w v e, more_slots_read laws t ws rest vs s)
+slots_read laws t _ _ _ (first_object {n} {ws} {rest} {vs} e s) = (slot_reads t n e, more_slots_read laws t ws rest vs s)
 
 abbrev pub FrameReads : Table → Slots → Type 0
 FrameReads t f = ReadsHead f.head × Each (SlotReads t) f.slots
 
-frames_read : (t : Table) (ws : List (List ℕ)) (fs : List Slots) → SpellsFrames (names_of t) ws fs → Each (FrameReads t) fs
-frames_read t _ _ frames_end = tt
-frames_read t _ _ (one_frame {w} {n} {pc} {ws} {rest} {vs} {fs} e s more) = ((head_reads w (head.Named n pc) e, slots_read t ws rest vs s), frames_read t rest fs more)
+frames_read : (laws : TextLaws) (t : Table) (ws : List (List ℕ)) (fs : List Slots) → SpellsFrames (names_of t) ws fs → Each (FrameReads t) fs
+frames_read laws t _ _ frames_end = tt
+frames_read laws t _ _ (one_frame {w} {n} {pc} {ws} {rest} {vs} {fs} e s more) = ((head_reads laws w (head.Named n pc) e, slots_read laws t ws rest vs s), frames_read laws t rest fs more)
 
-pub snapshot_reads : (t : Table) (ws : List (List ℕ)) (fs : List Slots) → SpellsSnapshot (names_of t) ws fs → Each (FrameReads t) fs
-snapshot_reads t ws fs (snapshot_framed s) = frames_read t ws fs s
-snapshot_reads t _ _ (snapshot_plain {ws} {vs} s) = ((tt, slots_read t ws [] vs s), tt)
+pub snapshot_reads : (laws : TextLaws) (t : Table) (ws : List (List ℕ)) (fs : List Slots) → SpellsSnapshot (names_of t) ws fs → Each (FrameReads t) fs
+snapshot_reads laws t ws fs (snapshot_framed s) = frames_read laws t ws fs s
+snapshot_reads laws t _ _ (snapshot_plain {ws} {vs} s) = ((tt, slots_read laws t ws [] vs s), tt)
 
-more_args_read : (t : Table) (ws rest : List (List ℕ)) (vs : List Value) (d : Option (List ℕ)) → MoreArgs (names_of t) ws vs d rest → Each (ArgReads t) vs × NameOrNone d
-more_args_read t _ _ _ _ args_end = (tt, tt)
-more_args_read t _ _ _ _ (args_descr e) = (tt, e)
-more_args_read t _ _ _ _ (arg_word {w} {v} {ws} {rest} {vs} {d} e s) = let r = more_args_read t ws rest vs d s in ((word_reads (ArgReads t) (args_plainly t) w v e, r.0), r.1)
-more_args_read t _ _ _ _ (arg_class {n} {ws} {rest} {vs} {d} e s) = let r = more_args_read t ws rest vs d s in ((class_reads t n e, r.0), r.1)
-more_args_read t _ _ _ _ (arg_object {n} {ws} {rest} {vs} {d} e s) = let r = more_args_read t ws rest vs d s in ((object_reads t n e, r.0), r.1)
+more_args_read : (laws : TextLaws) (t : Table) (ws rest : List (List ℕ)) (vs : List Value) (d : Option (List ℕ)) → MoreArgs (names_of t) ws vs d rest → Each (ArgReads t) vs × NameOrNone d
+more_args_read laws t _ _ _ _ args_end = (tt, tt)
+more_args_read laws t _ _ _ _ (args_descr e) = (tt, e)
+more_args_read laws t _ _ _ _ (arg_word {w} {v} {ws} {rest} {vs} {d} e s) = let r = more_args_read laws t ws rest vs d s in ((word_reads laws (ArgReads t) (args_plainly t) w v e, r.0), r.1)
+more_args_read laws t _ _ _ _ (arg_class {n} {ws} {rest} {vs} {d} e s) = let r = more_args_read laws t ws rest vs d s in ((class_reads t n e, r.0), r.1)
+more_args_read laws t _ _ _ _ (arg_object {n} {ws} {rest} {vs} {d} e s) = let r = more_args_read laws t ws rest vs d s in ((object_reads t n e, r.0), r.1)
 
-args_read : (t : Table) (ws rest : List (List ℕ)) (vs : List Value) (d : Option (List ℕ)) → SpellsArgs (names_of t) ws vs d rest → Each (ArgReads t) vs × NameOrNone d
-args_read t _ _ _ _ no_args = (tt, tt)
-args_read t _ _ _ _ (descr_alone e) = (tt, e)
-args_read t _ _ _ _ (begins_word {w} {v} {ws} {rest} {vs} {d} e s) = let r = more_args_read t ws rest vs d s in ((word_reads (ArgReads t) (args_plainly t) w v e, r.0), r.1)
-args_read t _ _ _ _ (begins_class {n} {ws} {rest} {vs} {d} e s) = let r = more_args_read t ws rest vs d s in ((class_reads t n e, r.0), r.1)
-args_read t _ _ _ _ (begins_object {n} {ws} {rest} {vs} {d} e s) = let r = more_args_read t ws rest vs d s in ((object_reads t n e, r.0), r.1)
+args_read : (laws : TextLaws) (t : Table) (ws rest : List (List ℕ)) (vs : List Value) (d : Option (List ℕ)) → SpellsArgs (names_of t) ws vs d rest → Each (ArgReads t) vs × NameOrNone d
+args_read laws t _ _ _ _ no_args = (tt, tt)
+args_read laws t _ _ _ _ (descr_alone e) = (tt, e)
+args_read laws t _ _ _ _ (begins_word {w} {v} {ws} {rest} {vs} {d} e s) = let r = more_args_read laws t ws rest vs d s in ((word_reads laws (ArgReads t) (args_plainly t) w v e, r.0), r.1)
+args_read laws t _ _ _ _ (begins_class {n} {ws} {rest} {vs} {d} e s) = let r = more_args_read laws t ws rest vs d s in ((class_reads t n e, r.0), r.1)
+args_read laws t _ _ _ _ (begins_object {n} {ws} {rest} {vs} {d} e s) = let r = more_args_read laws t ws rest vs d s in ((object_reads t n e, r.0), r.1)
 
 record LineReads (t : Table) (p : Parts) : Type 0 where
   result : ReadsResult (made_of p.made)
@@ -265,13 +244,13 @@ record LineReads (t : Table) (p : Parts) : Type 0 where
   descr : NameOrNone p.descr
   frames : Each (FrameReads t) p.frames
 
-line_reads : (t : Table) (ws : List (List ℕ)) (p : Parts) → SpellsLine (names_of t) ws p → LineReads t p
-line_reads t _ _ (line_alone {n} {ws} {rest} {vs} {d} {fs} is s more) =
-    let r = args_read t ws rest vs d s in
-    record { result = tt; args = r.0; descr = r.1; frames = snapshot_reads t rest fs more }
-line_reads t _ _ (line_made {b} {n} {x} {ws} {rest} {vs} {d} {fs} also made is s more) =
-    let r = args_read t ws rest vs d s in
-    record { result = omega (arith, number-box_id x.0 x.1, box_small b x made); args = r.0; descr = r.1; frames = snapshot_reads t rest fs more }
+line_reads : (laws : TextLaws) (t : Table) (ws : List (List ℕ)) (p : Parts) → SpellsLine (names_of t) ws p → LineReads t p
+line_reads laws t _ _ (line_alone {n} {ws} {rest} {vs} {d} {fs} is s more) =
+    let r = args_read laws t ws rest vs d s in
+    record { result = tt; args = r.0; descr = r.1; frames = snapshot_reads laws t rest fs more }
+line_reads laws t _ _ (line_made {b} {n} {x} {ws} {rest} {vs} {d} {fs} also made is s more) =
+    let r = args_read laws t ws rest vs d s in
+    record { result = omega (arith, number-box_id x.0 x.1, box_small laws b x made); args = r.0; descr = r.1; frames = snapshot_reads laws t rest fs more }
 
 -- ---- an operation that isn't refused
 
@@ -296,7 +275,7 @@ clear names seen others l e =
 
 values_known : (seen : List BoxId) (vs : List Value) → Each Told vs → list_any (is_unknown_box seen) vs ≡ false → Each (KnowsArg seen) (map arg_of vs)
 values_known seen [] h e = tt
-values_known seen (v ∷ vs) h e = let p = both_not (is_unknown_box seen v) (list_any (is_unknown_box seen) vs) e in (h.0 seen p.0, values_known seen vs h.1 p.1)
+values_known seen (v ∷ vs) h e = let p = or_parts (is_unknown_box seen v) (list_any (is_unknown_box seen) vs) e in (h.0 seen p.0, values_known seen vs h.1 p.1)
 
 each_first : {X : Type 0} (P Q : X → Type 0) (xs : List X) → Each (λ (x : X). P x × Q x) xs → Each P xs
 each_first P Q [] h = tt
@@ -310,16 +289,16 @@ framed_reads : (t : Table) (seen : List BoxId) (slots : List Arg) (own : List �
 framed_reads t seen slots own guard head.Plain is lt h s k few = record { name = is; pc = lt; slots = s; known = k; few = few }
 framed_reads t seen slots own guard (head.Named n pc) is lt h s k few = record { name = h.0; pc = h.1; slots = s; known = k; few = few }
 
-frames_reads : (t : Table) (seen : List BoxId) (own : List ℕ) (guard : ℕ) (fs : List Slots) → is_name own ≡ true → guard < 2 ^ 32 → Each (FrameReads t) fs → list_any (λ (f : Slots). list_any (is_unknown_box seen) f.slots) fs ≡ false → list_any (λ (f : Slots). not (nat_le (length f.slots) 256)) fs ≡ false → Each (ReadsFrame t seen) (map (frame_of own guard) fs)
-frames_reads t seen own guard [] is lt h known few = tt
-frames_reads t seen own guard (f ∷ fs) is lt h known few =
-    let p = both_not (list_any (is_unknown_box seen) f.slots) (list_any (λ (g : Slots). list_any (is_unknown_box seen) g.slots) fs) known in
-    let q = both_not (not (nat_le (length f.slots) 256)) (list_any (λ (g : Slots). not (nat_le (length g.slots) 256)) fs) few in
+frames_reads : (laws : TextLaws) (t : Table) (seen : List BoxId) (own : List ℕ) (guard : ℕ) (fs : List Slots) → is_name own ≡ true → guard < 2 ^ 32 → Each (FrameReads t) fs → list_any (λ (f : Slots). list_any (is_unknown_box seen) f.slots) fs ≡ false → list_any (λ (f : Slots). not (nat_le (length f.slots) 256)) fs ≡ false → Each (ReadsFrame t seen) (map (frame_of own guard) fs)
+frames_reads laws t seen own guard [] is lt h known few = tt
+frames_reads laws t seen own guard (f ∷ fs) is lt h known few =
+    let p = or_parts (list_any (is_unknown_box seen) f.slots) (list_any (λ (g : Slots). list_any (is_unknown_box seen) g.slots) fs) known in
+    let q = or_parts (not (nat_le (length f.slots) 256)) (list_any (λ (g : Slots). not (nat_le (length g.slots) 256)) fs) few in
     let vs : List Value = f.slots in
     let slots : Each (ReadsSlot t) (map arg_of vs) = each_map (ReadsSlot t) arg_of vs (each_first (λ (v : Value). ReadsSlot t (arg_of v)) Told vs (h.0).1) in
     let told : Each (KnowsArg seen) (map arg_of vs) = values_known seen vs (each_second (λ (v : Value). ReadsSlot t (arg_of v)) Told vs (h.0).1) p.0 in
     let small : length (map arg_of vs) ≤ 256 = omega (arith, length-map arg_of vs, not_more (length vs) 256 q.0) in
-    (framed_reads t seen (map arg_of vs) own guard f.head is lt (h.0).0 slots told small, frames_reads t seen own guard fs is lt h.1 p.1 q.1)
+    (framed_reads t seen (map arg_of vs) own guard f.head is lt (h.0).0 slots told small, frames_reads laws t seen own guard fs is lt h.1 p.1 q.1)
 
 -- ---- descrs
 
@@ -366,13 +345,13 @@ same_bool false false e = refl
 framed_as : (c : OpCode) (o : Option OpCode) (l : Line) → o ≡ Some c → is_misframed o l ≡ false → nat_lt 0 (length l.frames) ≡ is_guard c
 framed_as c o l e h = same_bool (is_guard c) (nat_lt 0 (length l.frames)) (ap (λ (x : Option OpCode). is_misframed x l) (sym e) ∙ h)
 
-pub op_reads : (t : Table) (seen : List BoxId) (others : ℕ) (own : List ℕ) (guard : ℕ) (c : OpCode) (ws : List (List ℕ)) (l : Line) → is_name own ≡ true → guard < 2 ^ 32 → code_of l.name ≡ Some c → op_at (names_of t) ws ≡ Some l → refusal (names_of t) seen others l ≡ None → ReadsOp t seen others (op_of (names_of t) own guard c l)
-op_reads t seen others own guard c ws l is lt named e r =
-    let h = line_reads t ws (parts_of l) (spelled_back (names_of t) ws l e) in
+pub op_reads : (laws : TextLaws) (t : Table) (seen : List BoxId) (others : ℕ) (own : List ℕ) (guard : ℕ) (c : OpCode) (ws : List (List ℕ)) (l : Line) → is_name own ≡ true → guard < 2 ^ 32 → code_of l.name ≡ Some c → op_at (names_of t) ws ≡ Some l → refusal (names_of t) seen others l ≡ None → ReadsOp t seen others (op_of (names_of t) own guard c l)
+op_reads laws t seen others own guard c ws l is lt named e r =
+    let h = line_reads laws t ws (parts_of l) (spelled_back (names_of t) ws l e) in
     let free = clear (names_of t) seen others l r in
     let room = passes (names_of t) seen others l r in
-    let known = both_not (list_any (is_unknown_box seen) l.args) (list_any (λ (f : Slots). list_any (is_unknown_box seen) f.slots) l.frames) free.known in
-    let placed = both_not (bytes_eq l.name (codes "debug_merge_point")) (is_misframed (code_of l.name) l) free.placed in
+    let known = or_parts (list_any (is_unknown_box seen) l.args) (list_any (λ (f : Slots). list_any (is_unknown_box seen) f.slots) l.frames) free.known in
+    let placed = or_parts (bytes_eq l.name (codes "debug_merge_point")) (is_misframed (code_of l.name) l) free.placed in
     let snapshot : List Frame = map (frame_of own guard) l.frames in
     let count : length snapshot ≡ length l.frames = length-map (frame_of own guard) l.frames in
     record {
@@ -380,7 +359,7 @@ op_reads t seen others own guard c ws l is lt named e r =
       args = each_map (ReadsArg t) arg_of l.args (each_first (λ (v : Value). ReadsArg t (arg_of v)) Told l.args h.args);
       known = values_known seen l.args (each_second (λ (v : Value). ReadsArg t (arg_of v)) Told l.args h.args) known.0;
       descr = descr_reads t c l.descr h.descr;
-      frames = frames_reads t seen own guard l.frames is lt h.frames known.1 room.slots_few;
+      frames = frames_reads laws t seen own guard l.frames is lt h.frames known.1 room.slots_few;
       framed = ap (nat_lt 0) count ∙ framed_as c (code_of l.name) l named placed.1;
       few = omega (arith, count, room.frames_few);
       room = room.operations;

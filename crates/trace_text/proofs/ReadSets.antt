@@ -20,11 +20,10 @@ use Rattle.trace_ops.specs.Facts.{part_of}
 use Rattle.trace_ops.specs.Classes.{is_guard}
 use Rattle.trace_ops.specs.Parts.{with_boxes}
 use Rattle.trace_ops.specs.InRange.{most_inputs}
-use Rattle.descr_table.specs.Writing.{prebuilt_name}
+use Rattle.descr_table.specs.Names.{prebuilt_name, vtable_name, function_name}
 use Rattle.trace_text.specs.Names.{look, names_of}
 use Rattle.trace_text.specs.Boxes.{knows, noted}
 use Rattle.trace_text.specs.Meaning.{descr_for}
-use Rattle.trace_text.specs.Writing.{vtable_name, function_name}
 use Rattle.trace_text.proofs.KeyNames.{descr_name}
 
 abbrev pub Each : {X : Type 0} → (X → Type 0) → List X → Type 0

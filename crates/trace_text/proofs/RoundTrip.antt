@@ -5,15 +5,14 @@ use Rattle.std.specs.Prelude.{codes}
 use Rattle.std.specs.List.{flat_map}
 use Rattle.text_lines.specs.Lines.{lines}
 use Rattle.text_lines.specs.Words.{words, is_plain, is_mark, is_word_byte}
-use Rattle.text_lines.specs.Reading.{read_lines, ok_then}
-use Rattle.text_lines.proofs.Written.{line_then_feed}
+use Rattle.lists.specs.Refused.{read_lines, ok_then}
+use Rattle.lists.proofs.Eaches.{each_append}
 use Rattle.trace_ops.specs.declared.table.Table.{Table}
 use Rattle.trace_ops.specs.declared.trace.Trace.{Trace}
 use Rattle.trace_ops.specs.declared.trace.TraceSet.{TraceSet}
 use Rattle.descr_table.specs.Meaning.{nothing}
 use Rattle.descr_table.specs.Reading.{table_at}
 use Rattle.descr_table.specs.Writing.{table_text}
-use Rattle.descr_table.proofs.RoundTrip.{table_back}
 use Rattle.trace_text.specs.declared.draft.Draft.{Draft}
 use Rattle.trace_text.specs.declared.cut.Until.TheVariants as until
 use Rattle.trace_text.specs.Names.{names_of}
@@ -27,7 +26,8 @@ use Rattle.trace_text.proofs.ReadSets.{Each, ReadsTrace}
 use Rattle.trace_text.proofs.ReadDrafts.{traces_read}
 use Rattle.trace_text.proofs.OpeningsBack.{heading_line_read, heading_line_words, is_heading}
 use Rattle.trace_text.proofs.TracesBack.{IsDone, AllGo, traces_go}
-use Rattle.trace_text.proofs.SectionsBack.{NoSession, table_whole, table_no_section, no_session_of, read_no_session, each_both, place_end, place_behind, Begins}
+use Rattle.trace_text.proofs.SectionsBack.{NoSession, table_whole, table_no_section, no_session_of, read_no_session, place_end, place_behind, Begins}
+use Rattle.trace_text.proofs.Below.{TextLaws}
 
 abbrev Words : Type 0
 Words = List (List ℕ)
@@ -47,18 +47,18 @@ feed_behind body rest a b c =
 nothing_lacks : drafts.lacks_inputs (drafts.nothing).phase ≡ false
 nothing_lacks = refl
 
-traces_begin : (t : Table) (traces : List Trace) → Each (ReadsTrace t) traces → Begins (stops until.Section) (traces_text t traces)
+traces_begin : (laws : TextLaws) (t : Table) (traces : List Trace) → Each (ReadsTrace t) traces → Begins (stops until.Section) (traces_text t traces)
 unfolding lines trace_lines heading_line
-traces_begin t [] h = inl refl
-traces_begin t (tr ∷ more) h =
+traces_begin laws t [] h = inl refl
+traces_begin laws t (tr ∷ more) h =
     let body = origin_text tr.origin tr.name in
     let inputs = inputs_line tr.inputs in
     let label = label_line tr.label tr.inputs in
     let ops = flat_map (λ op. op_line t op) tr.ops in
-    let plain : is_plain body ≡ true = (heading_line_read t 0 drafts.nothing tr.origin tr.name (h.0).name (h.0).from nothing_lacks (omega arith)).0 in
+    let plain : is_plain body ≡ true = (heading_line_read laws t 0 drafts.nothing tr.origin tr.name (h.0).name (h.0).from nothing_lacks (omega arith)).0 in
     let behind = inputs ++ (label ++ (ops ++ traces_text t more)) in
-    let e : lines (traces_text t (tr ∷ more)) ≡ body ∷ lines behind = ap lines (feed_behind body (traces_text t more) inputs label ops) ∙ line_then_feed body behind plain in
-    inr (body, lines behind, e, ap is_section (heading_line_words tr.origin tr.name (h.0).name (h.0).from) ∙ is_heading tr.origin tr.name)
+    let e : lines (traces_text t (tr ∷ more)) ≡ body ∷ lines behind = ap lines (feed_behind body (traces_text t more) inputs label ops) ∙ laws.spelled.pieces.line_then_feed body behind plain in
+    inr (body, lines behind, e, ap is_section (heading_line_words laws tr.origin tr.name (h.0).name (h.0).from) ∙ is_heading tr.origin tr.name)
 
 -- ---- the table and the traces
 
@@ -128,28 +128,28 @@ nothing_back : (again : ℕ) → table_at again [] ≡ Ok nothing
 unfolding table_at lines read_lines
 nothing_back again = refl
 
-table_source : (t : Table) → IsTableOfText t → (again : ℕ) → table_at again (table_text t) ≡ Ok t
-table_source t (inr h) again = table_back h.0 again h.1 t h.2
-table_source t (inl e) again = subst (λ (x : Table). table_at again (table_text x) ≡ Ok x) (sym e) (nothing_back again)
+table_source : (laws : TextLaws) (t : Table) → IsTableOfText t → (again : ℕ) → table_at again (table_text t) ≡ Ok t
+table_source laws t (inr h) again = laws.tables_back h.0 again h.1 t h.2
+table_source laws t (inl e) again = subst (λ (x : Table). table_at again (table_text x) ≡ Ok x) (sym e) (nothing_back again)
 
-pub set_back : (text : List ℕ) (x : TraceSet × ℕ) → set_at text ≡ Ok x → set_at (set_text x.0) ≡ Ok (x.0, length (set_text x.0))
-set_back text x e =
+pub set_back : (laws : TextLaws) (text : List ℕ) (x : TraceSet × ℕ) → set_at text ≡ Ok x → set_at (set_text x.0) ≡ Ok (x.0, length (set_text x.0))
+set_back laws text x e =
     let set : TraceSet = x.0 in
     let t : Table = set.table in
     let a = table_text t in
     let b = traces_text t set.traces in
     let written = set_text set in
-    let reads = traces_read text x e in
-    let all : AllGo t b drafts.nothing set.traces = traces_go t [] set.traces drafts.nothing (set_fits text x e).1 reads (record { done = refl; rest = refl }) in
-    let rows = table_source t (table_of_text text x e) in
+    let reads = traces_read laws text x e in
+    let all : AllGo t b drafts.nothing set.traces = traces_go laws t [] set.traces drafts.nothing (set_fits text x e).1 reads (record { done = refl; rest = refl }) in
+    let rows = table_source laws t (table_of_text text x e) in
     let whole = table_whole t in
-    let no_section = table_no_section 0 a t (rows 0) in
-    let cut : place_of (stops until.Section) (a ++ b) ≡ length a = place_behind (stops until.Section) a b whole no_section (traces_begin t set.traces reads) in
+    let no_section = table_no_section laws 0 a t (rows 0) in
+    let cut : place_of (stops until.Section) (a ++ b) ≡ length a = place_behind laws (stops until.Section) a b whole no_section (traces_begin laws t set.traces reads) in
     let is : written ≡ codes "%table" ++ 10 ∷ (a ++ b) = append_assoc (codes "%table\n") a b in
-    let opened : lines written ≡ codes "%table" ∷ lines (a ++ b) = ap lines is ∙ line_then_feed (codes "%table") (a ++ b) refl in
+    let opened : lines written ≡ codes "%table" ∷ lines (a ++ b) = ap lines is ∙ laws.spelled.pieces.line_then_feed (codes "%table") (a ++ b) refl in
     let split : lines written ≡ codes "%table" ∷ (lines a ++ lines b) = opened ∙ ap (λ (ls : Words). codes "%table" ∷ ls) (whole b) in
-    let calm : Each NoSession (lines a ++ lines b) = each_both NoSession (lines a) (lines b) (no_session_of (lines a) no_section) (read_no_session (names_of t) (lines b) 0 drafts.nothing all.end (all.goes.reads 0)) in
+    let calm : Each NoSession (lines a ++ lines b) = each_append NoSession (lines a) (lines b) (no_session_of (lines a) no_section) (read_no_session (names_of t) (lines b) 0 drafts.nothing all.end (all.goes.reads 0)) in
     let no_session : Each NoSession (lines written) = subst (Each NoSession) (sym split) (table_no_session, calm) in
-    uncut_read written set (place_end (stops until.Session) written no_session) (λ end.
+    uncut_read written set (place_end laws (stops until.Session) written no_session) (λ end.
     opened_read end written (a ++ b) (lines (a ++ b)) is opened
     ∙ cut_read t end (1 + lines_before (stops until.Said) written + 1) a b set.traces all.end cut (rows (1 + lines_before (stops until.Said) written + 1)) all.goes.reads all.done)

@@ -1,16 +1,17 @@
 -- A text that is written is cut into its table and its traces.
 use Rattle.std.proofs.Common.{◌≡◌, ℕ, suc, ◌+◌, Bool, true, false, cond, eqb, List, [], ◌∷◌, ◌++◌, length, Option, Some, None, Result, Ok, Err, refl, sym, ap, ◌∙◌, inl, inr, ◌⊎◌, arith, append_assoc, length-append}
 use Rattle.std.proofs.lemmas.List.{append-nil}
-use Rattle.std.proofs.lemmas.Bool.{ne_eqb, eqb-true}
+use Rattle.std.proofs.lemmas.Bool.{ne_eqb, eqb-true, and_parts}
 use Rattle.std.proofs.lemmas.Slice.Eq.{bytes_eq-Decides}
 use Rattle.std.specs.Prelude.{codes, slice_get, slice_index}
 use Rattle.std.specs.Str.{bytes_eq}
 use Rattle.std.specs.List.{flat_map}
 use Rattle.text_lines.specs.Lines.{lines, in_front}
 use Rattle.text_lines.specs.Words.{words, is_plain}
-use Rattle.text_lines.specs.Reading.{◌>>=◌, said, is_skipped, is_end, read_lines, ok_then}
+use Rattle.lists.specs.Binds.{◌>>=◌}
+use Rattle.lists.specs.Refused.{read_lines, ok_then}
+use Rattle.text_lines.specs.Reading.{said, is_skipped, is_end}
 use Rattle.text_lines.specs.Cut.{joined}
-use Rattle.text_lines.proofs.CutLaws.{lines_joined}
 use Rattle.trace_ops.specs.declared.table.ShapeOf.{ShapeOf}
 use Rattle.trace_ops.specs.declared.table.ShapeOf.TheVariants as shape
 use Rattle.trace_ops.specs.declared.table.SizeRow.{SizeRow}
@@ -25,7 +26,6 @@ use Rattle.descr_table.specs.Meaning.{nothing}
 use Rattle.descr_table.specs.Reading as rows
 use Rattle.descr_table.specs.Reading.{defined_in, read_said, table_at}
 use Rattle.descr_table.specs.Writing.{size_line_of, array_line_of, shape_line, field_line, call_line, function_line, prebuilt_line, table_text}
-use Rattle.descr_table.proofs.Takes.{form_takes}
 use Rattle.trace_text.specs.declared.fault.TextFault.{TextFault}
 use Rattle.trace_text.specs.declared.draft.Draft.{Draft}
 use Rattle.trace_text.specs.declared.cut.Until.TheVariants as until
@@ -34,7 +34,7 @@ use Rattle.trace_text.specs.Heading.{heading_at}
 use Rattle.trace_text.specs.Draft.{is_section, read_heading, read_in, read_line}
 use Rattle.trace_text.specs.Sections.{is_alone, stops, bytes_before, place_of}
 use Rattle.trace_text.proofs.ReadSets.{Each}
-use Rattle.trace_text.proofs.WordsBack.{both_true}
+use Rattle.trace_text.proofs.Below.{TextLaws}
 
 abbrev Words : Type 0
 Words = List (List ℕ)
@@ -120,40 +120,40 @@ skipped_no_section : (ws : Words) → is_skipped ws ≡ true → is_section ws �
 skipped_no_section [] e = refl
 skipped_no_section (w ∷ ws) e = ne_eqb (slice_index w 0) 37 (λ h. omega (arith, eqb-true (slice_index w 0) 35 e, h))
 
-form_by : (ws : Words) (o : Option Form) (x : Option Form) → form_at ws ≡ o → (o >>= λ f. Some (Some f)) ≡ Some x → is_section ws ≡ false
-form_by ws None x at e = absurd cc
-form_by ws (Some f) x at e = section_by ws f (form_takes ws f at).0
+form_by : (laws : TextLaws) (ws : Words) (o : Option Form) (x : Option Form) → form_at ws ≡ o → (o >>= λ f. Some (Some f)) ≡ Some x → is_section ws ≡ false
+form_by laws ws None x at e = absurd cc
+form_by laws ws (Some f) x at e = section_by ws f (laws.form_takes ws f at).0
 
-said_by : (plain skipped : Bool) (ws : Words) (x : Option Form) → is_skipped ws ≡ skipped → cond plain (cond skipped (Some None) (form_at ws >>= λ f. Some (Some f))) None ≡ Some x → is_section ws ≡ false
-said_by false skipped ws x s e = absurd cc
-said_by true true ws x s e = skipped_no_section ws s
-said_by true false ws x s e = form_by ws (form_at ws) x refl e
+said_by : (laws : TextLaws) (plain skipped : Bool) (ws : Words) (x : Option Form) → is_skipped ws ≡ skipped → cond plain (cond skipped (Some None) (form_at ws >>= λ f. Some (Some f))) None ≡ Some x → is_section ws ≡ false
+said_by laws false skipped ws x s e = absurd cc
+said_by laws true true ws x s e = skipped_no_section ws s
+said_by laws true false ws x s e = form_by laws ws (form_at ws) x refl e
 
-row_by : (d : Words) (n : ℕ) (line : List ℕ) (s made : Table) (o : Option (Option Form)) → said form_at line ≡ o → read_said d n s o ≡ Ok made → is_section (words line) ≡ false
+row_by : (laws : TextLaws) (d : Words) (n : ℕ) (line : List ℕ) (s made : Table) (o : Option (Option Form)) → said form_at line ≡ o → read_said d n s o ≡ Ok made → is_section (words line) ≡ false
 unfolding said
-row_by d n line s made None is e = absurd cc
-row_by d n line s made (Some x) is e = said_by (is_plain line) (is_skipped (words line)) (words line) x refl is
+row_by laws d n line s made None is e = absurd cc
+row_by laws d n line s made (Some x) is e = said_by laws (is_plain line) (is_skipped (words line)) (words line) x refl is
 
-row_no_section : (d : Words) (n : ℕ) (line : List ℕ) (s made : Table) → rows.read_line d n line s ≡ Ok made → is_section (words line) ≡ false
+row_no_section : (laws : TextLaws) (d : Words) (n : ℕ) (line : List ℕ) (s made : Table) → rows.read_line d n line s ≡ Ok made → is_section (words line) ≡ false
 unfolding rows.read_line
-row_no_section d n line s made e = row_by d n line s made (said form_at line) refl e
+row_no_section laws d n line s made e = row_by laws d n line s made (said form_at line) refl e
 
 abbrev pub NoSection : List ℕ → Type 0
 NoSection line = stops until.Section line ≡ false
 
-row_step : (d : Words) (n : ℕ) (l : List ℕ) (ls : Words) (s t : Table) (r : Result Table TableFault) → rows.read_line d n l s ≡ r → ok_then r (λ made. read_lines (rows.read_line d) (suc n) ls made) ≡ Ok t
+row_step : (laws : TextLaws) (d : Words) (n : ℕ) (l : List ℕ) (ls : Words) (s t : Table) (r : Result Table TableFault) → rows.read_line d n l s ≡ r → ok_then r (λ made. read_lines (rows.read_line d) (suc n) ls made) ≡ Ok t
     → ((made : Table) → read_lines (rows.read_line d) (suc n) ls made ≡ Ok t → Each NoSection ls) → Each NoSection (l ∷ ls)
-row_step d n l ls s t (Ok made) is e f = (row_no_section d n l s made is, f made e)
-row_step d n l ls s t (Err why) is e f = absurd cc
+row_step laws d n l ls s t (Ok made) is e f = (row_no_section laws d n l s made is, f made e)
+row_step laws d n l ls s t (Err why) is e f = absurd cc
 
-rows_no_section : (d : Words) (ls : Words) (n : ℕ) (s t : Table) → read_lines (rows.read_line d) n ls s ≡ Ok t → Each NoSection ls
+rows_no_section : (laws : TextLaws) (d : Words) (ls : Words) (n : ℕ) (s t : Table) → read_lines (rows.read_line d) n ls s ≡ Ok t → Each NoSection ls
 unfolding read_lines
-rows_no_section d [] n s t e = tt
-rows_no_section d (l ∷ ls) n s t e = row_step d n l ls s t (rows.read_line d n l s) refl e (λ made g. rows_no_section d ls (suc n) made t g)
+rows_no_section laws d [] n s t e = tt
+rows_no_section laws d (l ∷ ls) n s t e = row_step laws d n l ls s t (rows.read_line d n l s) refl e (λ made g. rows_no_section laws d ls (suc n) made t g)
 
-pub table_no_section : (n : ℕ) (text : List ℕ) (t : Table) → table_at n text ≡ Ok t → Each NoSection (lines text)
+pub table_no_section : (laws : TextLaws) (n : ℕ) (text : List ℕ) (t : Table) → table_at n text ≡ Ok t → Each NoSection (lines text)
 unfolding table_at
-table_no_section n text t e = rows_no_section (defined_in text) (lines text) n nothing t e
+table_no_section laws n text t e = rows_no_section laws (defined_in text) (lines text) n nothing t e
 
 -- ---- no line is the session's
 
@@ -167,7 +167,7 @@ end_is (w ∷ ws) e = absurd cc
 alone_is : (key : List ℕ) (ws : Words) → is_alone key ws ≡ true → ws ≡ key ∷ []
 alone_is key [] e = absurd cc
 alone_is key (w ∷ ws) e =
-    let p = both_true (bytes_eq w key) (is_end ws) e in
+    let p = and_parts (bytes_eq w key) (is_end ws) e in
     ap (λ (x : List ℕ). x ∷ ws) ((bytes_eq-Decides w key).0 p.0) ∙ ap (λ (x : Words). key ∷ x) (end_is ws p.1)
 
 session_by : (b : Bool) (ws : Words) → is_alone (codes "%session") ws ≡ b → is_section ws ≡ false → b ≡ false
@@ -206,10 +206,6 @@ unfolding read_lines
 read_no_session names [] n d m e = tt
 read_no_session names (l ∷ ls) n d m e = calm_step names n l ls d m (read_line names n l d) refl e (λ made g. read_no_session names ls (suc n) made m g)
 
-pub each_both : {X : Type 0} (P : X → Type 0) (xs ys : List X) → Each P xs → Each P ys → Each P (xs ++ ys)
-each_both P [] ys h i = i
-each_both P (x ∷ xs) ys h i = (h.0, each_both P xs ys h.1 i)
-
 -- ---- places
 
 bytes_passed : (test : List ℕ → Bool) (k : ℕ) (ls more : Words) → Each (λ (l : List ℕ). test l ≡ false) ls → bytes_before test k (ls ++ more) ≡ bytes_before test (k + length (joined ls)) more
@@ -220,8 +216,8 @@ bytes_passed test k (l ∷ ls) more h =
     let at : (k + (length l + 1)) + length (joined ls) ≡ k + length (joined (l ∷ ls)) = omega (arith, length-append l (10 ∷ []), length-append (l ++ 10 ∷ []) (joined ls)) in
     rw first (bytes_passed test (k + (length l + 1)) ls more h.1 ∙ ap (λ n. bytes_before test n more) at)
 
-joined_length : (text : List ℕ) → (length (joined (lines text)) ≡ length text) ⊎ (length (joined (lines text)) ≡ length text + 1)
-joined_length text = elim (lines_joined text) [
+joined_length : (laws : TextLaws) (text : List ℕ) → (length (joined (lines text)) ≡ length text) ⊎ (length (joined (lines text)) ≡ length text + 1)
+joined_length laws text = elim (laws.spelled.pieces.lines_joined text) [
   | inl e ↦ inl (ap length e)
   | inr e ↦ inr (ap length e ∙ length-append text (10 ∷ []))
 ]
@@ -240,27 +236,27 @@ either_length n m j (inr e) (inl f) is = absurd (omega (arith, e, f, is))
 either_length n m j (inr e) (inr f) is = absurd (omega (arith, e, f, is))
 
 -- the lines of a text that ends with a line feed have its length
-whole_length : (text : List ℕ) → IsWhole text → length (joined (lines text)) ≡ length text
-whole_length text h =
+whole_length : (laws : TextLaws) (text : List ℕ) → IsWhole text → length (joined (lines text)) ≡ length text
+whole_length laws text h =
     let more = text ++ 100 ∷ [] in
     let both : length (joined (lines more)) ≡ length (joined (lines text)) + length (joined (lines (100 ∷ []))) = ap (λ (ls : Words). length (joined ls)) (h (100 ∷ [])) ∙ joined_both (lines text) (lines (100 ∷ [])) in
     let last : length (joined (lines (100 ∷ []))) ≡ 2 = ap (λ (ls : Words). length (joined ls)) one_byte in
     let count : length more ≡ length text + 1 = length-append text (100 ∷ []) in
-    let second : (length (joined (lines text)) + length (joined (lines (100 ∷ []))) ≡ length text + 1) ⊎ (length (joined (lines text)) + length (joined (lines (100 ∷ []))) ≡ (length text + 1) + 1) = elim (joined_length more) [
+    let second : (length (joined (lines text)) + length (joined (lines (100 ∷ []))) ≡ length text + 1) ⊎ (length (joined (lines text)) + length (joined (lines (100 ∷ []))) ≡ (length text + 1) + 1) = elim (joined_length laws more) [
       | inl e ↦ inl (sym both ∙ e ∙ count)
       | inr e ↦ inr (sym both ∙ e ∙ ap (λ n. n + 1) count)
     ] in
-    either_length (length (joined (lines text))) (length text) (length (joined (lines (100 ∷ [])))) (joined_length text) second last
+    either_length (length (joined (lines text))) (length text) (length (joined (lines (100 ∷ [])))) (joined_length laws text) second last
 
 no_lines_left : (test : List ℕ → Bool) (k : ℕ) → bytes_before test k [] ≡ k
 unfolding bytes_before
 no_lines_left test k = refl
 
 -- no line stops: the place is the text's end
-pub place_end : (test : List ℕ → Bool) (text : List ℕ) → Each (λ (l : List ℕ). test l ≡ false) (lines text) → place_of test text ≡ length text
-place_end test text h =
+pub place_end : (laws : TextLaws) (test : List ℕ → Bool) (text : List ℕ) → Each (λ (l : List ℕ). test l ≡ false) (lines text) → place_of test text ≡ length text
+place_end laws test text h =
     let all : bytes_before test 0 (lines text) ≡ 0 + length (joined (lines text)) = ap (bytes_before test 0) (sym (append-nil (lines text))) ∙ bytes_passed test 0 (lines text) [] h ∙ no_lines_left test (0 + length (joined (lines text))) in
-    elim (joined_length text) [
+    elim (joined_length laws text) [
       | inl e ↦ omega (arith, all, e)
       | inr e ↦ omega (arith, all, e)
     ]
@@ -277,7 +273,7 @@ begins_at : (test : List ℕ → Bool) (k : ℕ) (text : List ℕ) → Begins te
 begins_at test k text (inl e) = ap (bytes_before test k) e ∙ no_lines_left test k
 begins_at test k text (inr h) = ap (bytes_before test k) h.2 ∙ met test k h.0 h.1 h.3
 
-pub place_behind : (test : List ℕ → Bool) (a b : List ℕ) → IsWhole a → Each (λ (l : List ℕ). test l ≡ false) (lines a) → Begins test b → place_of test (a ++ b) ≡ length a
-place_behind test a b whole h i =
+pub place_behind : (laws : TextLaws) (test : List ℕ → Bool) (a b : List ℕ) → IsWhole a → Each (λ (l : List ℕ). test l ≡ false) (lines a) → Begins test b → place_of test (a ++ b) ≡ length a
+place_behind laws test a b whole h i =
     let at : bytes_before test 0 (lines (a ++ b)) ≡ 0 + length (joined (lines a)) = ap (bytes_before test 0) (whole b) ∙ bytes_passed test 0 (lines a) (lines b) h ∙ begins_at test (0 + length (joined (lines a))) b i in
-    omega (arith, at, whole_length a whole, length-append a b)
+    omega (arith, at, whole_length laws a whole, length-append a b)

@@ -3,7 +3,7 @@ use Rattle.std.proofs.Common.{◌≡◌, ℕ, suc, ◌+◌, true, false, cond, L
 use Rattle.std.specs.Prelude.{codes}
 use Rattle.text_lines.specs.Words.{words}
 use Rattle.text_lines.specs.Lines.{lines}
-use Rattle.text_lines.specs.Reading.{read_lines, ok_then}
+use Rattle.lists.specs.Refused.{read_lines, ok_then}
 use Rattle.trace_ops.specs.declared.trace.Trace.{Trace}
 use Rattle.trace_ops.specs.declared.trace.TraceSet.{TraceSet}
 use Rattle.trace_ops.specs.declared.table.Table.{Table}

@@ -4,7 +4,9 @@ use Rattle.std.specs.Prelude.{codes, position, nat_eq}
 use Rattle.std.specs.Str.{bytes_eq}
 use Rattle.std.proofs.lemmas.Slice.Eq.{bytes_eq-Decides}
 use Rattle.text_lines.specs.Words.{is_name}
-use Rattle.text_lines.specs.Reading.{◌>>=◌, word_at, name_at, key_at, ended}
+use Rattle.lists.specs.Binds.{◌>>=◌}
+use Rattle.lists.proofs.Bools.{bytes_same}
+use Rattle.text_lines.specs.Reading.{word_at, name_at, key_at, ended}
 use Rattle.text_lines.specs.Numbers.{decimal_of}
 use Rattle.trace_ops.specs.declared.trace.Origin.{Origin}
 use Rattle.trace_ops.specs.declared.trace.Origin.TheVariants as origin
@@ -28,9 +30,6 @@ heading name o = record { name = name; origin = o }
 
 abbrev pair : List ℕ → List (List ℕ) → List ℕ × List (List ℕ)
 pair n ws = (n, ws)
-
-same_word : (w key : List ℕ) → bytes_eq w key ≡ true → w ≡ key
-same_word w key e = (bytes_eq-Decides w key).0 e
 
 abbrev heading_in : Heading → Option Heading → Heading
 heading_in other None = other
@@ -94,7 +93,7 @@ from_by n [] h e = absurd cc
 from_by n (f ∷ rest) h e =
     let p = key_by (bytes_eq f (codes "from")) n rest h e in
     let q = word_by n rest h p.1 in
-    (q.0, q.1, ap (λ (x : List ℕ). x ∷ rest) (same_word f (codes "from") p.0) ∙ ap (λ (x : List (List ℕ)). codes "from" ∷ x) q.2, q.3, q.4)
+    (q.0, q.1, ap (λ (x : List ℕ). x ∷ rest) (bytes_same f (codes "from") p.0) ∙ ap (λ (x : List (List ℕ)). codes "from" ∷ x) q.2, q.3, q.4)
 
 name_by : (b : Bool) (n : List ℕ) (rest : List (List ℕ)) (h : Heading) → (cond b (Some (pair n rest)) None >>= λ name. key_at (codes "from") name.1 >>= λ behind. word_at behind >>= λ w. guard_name w.0 >>= λ from. ended (heading name.0 from) w.1) ≡ Some h → (b ≡ true) × ((key_at (codes "from") rest >>= λ behind. word_at behind >>= λ w. guard_name w.0 >>= λ from. ended (heading n from) w.1) ≡ Some h)
 name_by true n rest h e = (refl, e)
@@ -111,8 +110,8 @@ bridge_back (n ∷ rest) h e =
     subst (λ (x : Heading). SpellsHeading (codes "%bridge" ∷ n ∷ rest) x) (sym q.4) words
 
 by_key : (a b : Bool) (k : List ℕ) (ws : List (List ℕ)) (h : Heading) → bytes_eq k (codes "%loop") ≡ a → bytes_eq k (codes "%bridge") ≡ b → cond a (loop_at ws) (cond b (bridge_at ws) None) ≡ Some h → SpellsHeading (k ∷ ws) h
-by_key true b k ws h ea eb e = subst (λ (x : List ℕ). SpellsHeading (x ∷ ws) h) (sym (same_word k (codes "%loop") ea)) (loop_back ws h e)
-by_key false true k ws h ea eb e = subst (λ (x : List ℕ). SpellsHeading (x ∷ ws) h) (sym (same_word k (codes "%bridge") eb)) (bridge_back ws h e)
+by_key true b k ws h ea eb e = subst (λ (x : List ℕ). SpellsHeading (x ∷ ws) h) (sym (bytes_same k (codes "%loop") ea)) (loop_back ws h e)
+by_key false true k ws h ea eb e = subst (λ (x : List ℕ). SpellsHeading (x ∷ ws) h) (sym (bytes_same k (codes "%bridge") eb)) (bridge_back ws h e)
 by_key false false k ws h ea eb e = absurd cc
 
 pub heading_back : (ws : List (List ℕ)) (h : Heading) → heading_at ws ≡ Some h → SpellsHeading ws h

@@ -4,7 +4,8 @@ use Rattle.std.proofs.lemmas.List.{append-nil}
 use Rattle.std.specs.Prelude.{codes}
 use Rattle.std.specs.Str.{bytes_eq}
 use Rattle.text_lines.specs.Words.{is_name}
-use Rattle.text_lines.specs.Reading.{◌>>=◌}
+use Rattle.lists.specs.Binds.{◌>>=◌}
+use Rattle.lists.proofs.Bools.{bytes_same}
 use Rattle.text_lines.specs.declared.number.Letter.{Letter}
 use Rattle.text_lines.specs.Numbers.{box_of}
 use Rattle.trace_text.specs.declared.value.Value.{Value}
@@ -17,7 +18,7 @@ use Rattle.trace_text.specs.Values.{plain_value, named_value}
 use Rattle.trace_text.specs.Line.{run, start, go, done, is_done, op_at, inputs_at, from, with_made}
 use Rattle.trace_text.specs.Spelling.{SpellsSnapshot, MoreArgs, args_end, args_descr, arg_word, arg_class, arg_object, SpellsArgs, no_args, descr_alone, begins_word, begins_class, begins_object, Parts, parts_of, SpellsLine, line_alone, line_made}
 use Rattle.trace_text.proofs.Again.{pushed, with_args}
-use Rattle.trace_text.proofs.SpelledSlots.{if_some, if_or, if_option, from_value, same_word, stuck, object_back, class_back, snapshot_back, ends_in, object, class, Named}
+use Rattle.trace_text.proofs.SpelledSlots.{if_some, if_or, if_option, from_value, stuck, object_back, class_back, snapshot_back, ends_in, object, class, Named}
 
 -- ---- arguments
 
@@ -45,7 +46,7 @@ record DescrBack (names : Names) (l m : Line) (ws : List (List ℕ)) : Type 0 wh
 
 described : (a n b : List ℕ) (ws : List (List ℕ)) → bytes_eq a (codes "=") ≡ true → bytes_eq b (codes ")") ≡ true → a ∷ n ∷ b ∷ ws ≡ codes "=" ∷ n ∷ codes ")" ∷ ws
 described a n b ws first last =
-    ap (λ (x : List ℕ). x ∷ n ∷ b ∷ ws) (same_word a (codes "=") first) ∙ ap (λ (x : List ℕ). codes "=" ∷ n ∷ x ∷ ws) (same_word b (codes ")") last)
+    ap (λ (x : List ℕ). x ∷ n ∷ b ∷ ws) (bytes_same a (codes "=") first) ∙ ap (λ (x : List ℕ). codes "=" ∷ n ∷ x ∷ ws) (bytes_same b (codes ")") last)
 
 descr_back : (names : Names) (l m : Line) (ws : List (List ℕ)) → is_done m.place ≡ true → run names (go l place.Descr) ws ≡ Some m → DescrBack names l m ws
 unfolding run
@@ -91,17 +92,17 @@ unfolding run
 next_arg_back names l m n [] ih le none ends h = stuck (go l place.Next) m refl ends h
 next_arg_back names l m n (w ∷ ws) ih le none ends h =
     elim (if_or names (bytes_eq w (codes "descr")) (go l place.Descr) m (cond (bytes_eq w (codes "ConstClass")) (Some (go l place.Class)) (cond (bytes_eq w (codes "ConstPtr")) (Some (go l place.Ptr)) (plain_value w >>= λ v. Some (pushed l v place.Behind)))) ws h) [
-      | inl p ↦ subst (λ (x : List ℕ). MoreArgsBack names l m (codes "," ∷ x ∷ ws)) (sym (same_word w (codes "descr") p.0)) (arg_descr_back names l m ws (descr_back names l m ws ends p.1))
+      | inl p ↦ subst (λ (x : List ℕ). MoreArgsBack names l m (codes "," ∷ x ∷ ws)) (sym (bytes_same w (codes "descr") p.0)) (arg_descr_back names l m ws (descr_back names l m ws ends p.1))
       | inr p ↦ elim (if_or names (bytes_eq w (codes "ConstClass")) (go l place.Class) m (cond (bytes_eq w (codes "ConstPtr")) (Some (go l place.Ptr)) (plain_value w >>= λ v. Some (pushed l v place.Behind))) ws p.1) [
         | inl q ↦
             let o = class_back names l m ws ends q.1 in
             let r = arg_class_back names l m ws o (ih (class names l o.name) o.rest (omega (arith, le, ap length o.words)) none o.runs) in
-            subst (λ (x : List ℕ). MoreArgsBack names l m (codes "," ∷ x ∷ ws)) (sym (same_word w (codes "ConstClass") q.0)) r
+            subst (λ (x : List ℕ). MoreArgsBack names l m (codes "," ∷ x ∷ ws)) (sym (bytes_same w (codes "ConstClass") q.0)) r
         | inr q ↦ elim (if_or names (bytes_eq w (codes "ConstPtr")) (go l place.Ptr) m (plain_value w >>= λ v. Some (pushed l v place.Behind)) ws q.1) [
           | inl u ↦
               let o = object_back names l m ws ends u.1 in
               let r = arg_object_back names l m ws o (ih (object names l place.Behind o.name) o.rest (omega (arith, le, ap length o.words)) none o.runs) in
-              subst (λ (x : List ℕ). MoreArgsBack names l m (codes "," ∷ x ∷ ws)) (sym (same_word w (codes "ConstPtr") u.0)) r
+              subst (λ (x : List ℕ). MoreArgsBack names l m (codes "," ∷ x ∷ ws)) (sym (bytes_same w (codes "ConstPtr") u.0)) r
           | inr u ↦
               let v = from_value names (plain_value w) (λ v. pushed l v place.Behind) m ws u.1 in
               arg_word_back names l m w v.0 ws v.1 (ih (pushed l v.0 place.Behind) ws (omega (arith, le)) none v.2)
@@ -112,7 +113,7 @@ next_arg_back names l m n (w ∷ ws) ih le none ends h =
 args_end_back : (names : Names) (l m : Line) (x : List ℕ) (ws : List (List ℕ)) → l.descr ≡ None → bytes_eq x (codes ")") ≡ true → run names (with_args l l.opened l.descr) ws ≡ Some m → MoreArgsBack names l m (x ∷ ws)
 args_end_back names l m x ws none e h =
     let made : MoreArgsBack names l m (codes ")" ∷ ws) = record { args = []; descr = None; rest = ws; spelled = args_end; runs = ap (λ y. run names (with_args l y None) ws) (append-nil l.opened) ∙ ap (λ (d : Option (List ℕ)). run names (with_args l l.opened d) ws) (sym none) ∙ h } in
-    subst (λ (y : List ℕ). MoreArgsBack names l m (y ∷ ws)) (sym (same_word x (codes ")") e)) made
+    subst (λ (y : List ℕ). MoreArgsBack names l m (y ∷ ws)) (sym (bytes_same x (codes ")") e)) made
 
 more_args_back : (n : ℕ) (names : Names) (m : Line) → is_done m.place ≡ true → FewerArgs names m n
 unfolding run
@@ -122,7 +123,7 @@ more_args_back (suc n) names m ends l (x ∷ ws) le none h =
     elim (if_or names (bytes_eq x (codes ",")) (go l place.Next) m (cond (bytes_eq x (codes ")")) (Some (with_args l l.opened l.descr)) None) ws h) [
       | inl p ↦
           let r = next_arg_back names l m n ws (more_args_back n names m ends) (omega (arith, le)) none ends p.1 in
-          subst (λ (y : List ℕ). MoreArgsBack names l m (y ∷ ws)) (sym (same_word x (codes ",") p.0)) r
+          subst (λ (y : List ℕ). MoreArgsBack names l m (y ∷ ws)) (sym (bytes_same x (codes ",") p.0)) r
       | inr p ↦
           let q = if_some names (bytes_eq x (codes ")")) (with_args l l.opened l.descr) m ws p.1 in
           args_end_back names l m x ws none q.0 q.1
@@ -134,7 +135,7 @@ FirstArgsBack names l m ws = ArgsBack names l m [] (SpellsArgs names ws)
 args_none_back : (names : Names) (l m : Line) (x : List ℕ) (ws : List (List ℕ)) → l.opened ≡ [] → l.descr ≡ None → bytes_eq x (codes ")") ≡ true → run names (with_args l l.opened l.descr) ws ≡ Some m → FirstArgsBack names l m (x ∷ ws)
 args_none_back names l m x ws none bare e h =
     let made : FirstArgsBack names l m (codes ")" ∷ ws) = record { args = []; descr = None; rest = ws; spelled = no_args; runs = ap (λ (y : List Value). run names (with_args l y None) ws) (sym none) ∙ ap (λ (d : Option (List ℕ)). run names (with_args l l.opened d) ws) (sym bare) ∙ h } in
-    subst (λ (y : List ℕ). FirstArgsBack names l m (y ∷ ws)) (sym (same_word x (codes ")") e)) made
+    subst (λ (y : List ℕ). FirstArgsBack names l m (y ∷ ws)) (sym (bytes_same x (codes ")") e)) made
 
 first_arg_back : (names : Names) (l m : Line) (w : List ℕ) (v : Value) (ws : List (List ℕ)) → l.opened ≡ [] → plain_value w ≡ Some v → MoreArgsBack names (pushed l v place.Behind) m ws → FirstArgsBack names l m (w ∷ ws)
 first_arg_back names l m w v ws none e r =
@@ -167,17 +168,17 @@ args_back names l m (w ∷ ws) none bare ends h =
     elim (if_or names (bytes_eq w (codes ")")) (with_args l l.opened l.descr) m (cond (bytes_eq w (codes "descr")) (Some (go l place.Descr)) (cond (bytes_eq w (codes "ConstClass")) (Some (go l place.Class)) (cond (bytes_eq w (codes "ConstPtr")) (Some (go l place.Ptr)) (plain_value w >>= λ v. Some (pushed l v place.Behind))))) ws h) [
       | inl p ↦ args_none_back names l m w ws none bare p.0 p.1
       | inr p ↦ elim (if_or names (bytes_eq w (codes "descr")) (go l place.Descr) m (cond (bytes_eq w (codes "ConstClass")) (Some (go l place.Class)) (cond (bytes_eq w (codes "ConstPtr")) (Some (go l place.Ptr)) (plain_value w >>= λ v. Some (pushed l v place.Behind)))) ws p.1) [
-        | inl q ↦ subst (λ (x : List ℕ). FirstArgsBack names l m (x ∷ ws)) (sym (same_word w (codes "descr") q.0)) (first_descr_back names l m ws none (descr_back names l m ws ends q.1))
+        | inl q ↦ subst (λ (x : List ℕ). FirstArgsBack names l m (x ∷ ws)) (sym (bytes_same w (codes "descr") q.0)) (first_descr_back names l m ws none (descr_back names l m ws ends q.1))
         | inr q ↦ elim (if_or names (bytes_eq w (codes "ConstClass")) (go l place.Class) m (cond (bytes_eq w (codes "ConstPtr")) (Some (go l place.Ptr)) (plain_value w >>= λ v. Some (pushed l v place.Behind))) ws q.1) [
           | inl u ↦
               let o = class_back names l m ws ends u.1 in
               let r = first_class_back names l m ws o none (more_args_back (length o.rest) names m ends (class names l o.name) o.rest (omega arith) bare o.runs) in
-              subst (λ (x : List ℕ). FirstArgsBack names l m (x ∷ ws)) (sym (same_word w (codes "ConstClass") u.0)) r
+              subst (λ (x : List ℕ). FirstArgsBack names l m (x ∷ ws)) (sym (bytes_same w (codes "ConstClass") u.0)) r
           | inr u ↦ elim (if_or names (bytes_eq w (codes "ConstPtr")) (go l place.Ptr) m (plain_value w >>= λ v. Some (pushed l v place.Behind)) ws u.1) [
             | inl t ↦
                 let o = object_back names l m ws ends t.1 in
                 let r = first_object_back names l m ws o none (more_args_back (length o.rest) names m ends (object names l place.Behind o.name) o.rest (omega arith) bare o.runs) in
-                subst (λ (x : List ℕ). FirstArgsBack names l m (x ∷ ws)) (sym (same_word w (codes "ConstPtr") t.0)) r
+                subst (λ (x : List ℕ). FirstArgsBack names l m (x ∷ ws)) (sym (bytes_same w (codes "ConstPtr") t.0)) r
             | inr t ↦
                 let v = from_value names (plain_value w) (λ v. pushed l v place.Behind) m ws t.1 in
                 first_arg_back names l m w v.0 ws none v.1 (more_args_back (length ws) names m ends (pushed l v.0 place.Behind) ws (omega arith) bare v.2)
@@ -210,7 +211,7 @@ opened_by n = record start { name = n; place = place.First }
 alone_back : (names : Names) (m : Line) (n b : List ℕ) (ws : List (List ℕ)) → is_name n ≡ true → bytes_eq b (codes "(") ≡ true → CallBack names (opened_by n) m ws → SpellsLine names (n ∷ b ∷ ws) (parts_of m)
 alone_back names m n b ws is e r =
     let made : SpellsLine names (n ∷ codes "(" ∷ ws) (parts_of m) = subst (λ (p : Parts). SpellsLine names (n ∷ codes "(" ∷ ws) p) (sym r.parts) (line_alone is r.called r.framed) in
-    subst (λ (x : List ℕ). SpellsLine names (n ∷ x ∷ ws) (parts_of m)) (sym (same_word b (codes "(") e)) made
+    subst (λ (x : List ℕ). SpellsLine names (n ∷ x ∷ ws) (parts_of m)) (sym (bytes_same b (codes "(") e)) made
 
 abbrev made_by : List ℕ → Letter × ℕ → Line
 made_by n x = record start { made = Some x; name = n; place = place.Named }
@@ -218,8 +219,8 @@ made_by n x = record start { made = Some x; name = n; place = place.Named }
 made_back : (names : Names) (m : Line) (b q n o : List ℕ) (x : Letter × ℕ) (ws : List (List ℕ)) → is_name b ≡ true → box_of b ≡ Some x → bytes_eq q (codes "=") ≡ true → is_name n ≡ true → bytes_eq o (codes "(") ≡ true → CallBack names (made_by n x) m ws → SpellsLine names (b ∷ q ∷ n ∷ o ∷ ws) (parts_of m)
 made_back names m b q n o x ws is e eq named open_is r =
     let made : SpellsLine names (b ∷ codes "=" ∷ n ∷ codes "(" ∷ ws) (parts_of m) = subst (λ (p : Parts). SpellsLine names (b ∷ codes "=" ∷ n ∷ codes "(" ∷ ws) p) (sym r.parts) (line_made is e named r.called r.framed) in
-    let behind : SpellsLine names (b ∷ codes "=" ∷ n ∷ o ∷ ws) (parts_of m) = subst (λ (y : List ℕ). SpellsLine names (b ∷ codes "=" ∷ n ∷ y ∷ ws) (parts_of m)) (sym (same_word o (codes "(") open_is)) made in
-    subst (λ (y : List ℕ). SpellsLine names (b ∷ y ∷ n ∷ o ∷ ws) (parts_of m)) (sym (same_word q (codes "=") eq)) behind
+    let behind : SpellsLine names (b ∷ codes "=" ∷ n ∷ o ∷ ws) (parts_of m) = subst (λ (y : List ℕ). SpellsLine names (b ∷ codes "=" ∷ n ∷ y ∷ ws) (parts_of m)) (sym (bytes_same o (codes "(") open_is)) made in
+    subst (λ (y : List ℕ). SpellsLine names (b ∷ y ∷ n ∷ o ∷ ws) (parts_of m)) (sym (bytes_same q (codes "=") eq)) behind
 
 from_box : (names : Names) (o : Option (Letter × ℕ)) (l m : Line) (ws : List (List ℕ)) → (with_made l o >>= λ y. run names y ws) ≡ Some m → (x : Letter × ℕ) × (o ≡ Some x) × (run names (record l { made = Some x; place = place.Equals }) ws ≡ Some m)
 from_box names None l m ws h = absurd cc

@@ -5,7 +5,8 @@ use Rattle.std.specs.Prelude.{codes, position, nat_eq}
 use Rattle.std.specs.Str.{bytes_eq}
 use Rattle.std.proofs.lemmas.Slice.Eq.{bytes_eq-Decides}
 use Rattle.text_lines.specs.Words.{is_name}
-use Rattle.text_lines.specs.Reading.{◌>>=◌}
+use Rattle.lists.specs.Binds.{◌>>=◌}
+use Rattle.lists.proofs.Bools.{bytes_same}
 use Rattle.text_lines.specs.Numbers.{decimal_of}
 use Rattle.trace_text.specs.declared.value.Value.{Value}
 use Rattle.trace_text.specs.declared.value.Head.{Head}
@@ -42,9 +43,6 @@ pub from_head : (names : Names) (o : Option Head) (g : Head → Line) (m : Line)
 from_head names None g m ws h = absurd cc
 from_head names (Some v) g m ws h = (v, refl, h)
 
-pub same_word : (w key : List ℕ) → bytes_eq w key ≡ true → w ≡ key
-same_word w key e = (bytes_eq-Decides w key).0 e
-
 abbrev pub ends_in : Option Line → Bool
 ends_in None = false
 ends_in (Some l) = is_done l.place
@@ -57,7 +55,7 @@ stuck l m goes ends e = let bad : false ≡ true = sym goes ∙ ap ends_in e ∙
 
 pub bracketed : (a n b : List ℕ) (ws : List (List ℕ)) → bytes_eq a (codes "(") ≡ true → bytes_eq b (codes ")") ≡ true → a ∷ n ∷ b ∷ ws ≡ codes "(" ∷ n ∷ codes ")" ∷ ws
 bracketed a n b ws first last =
-    ap (λ (x : List ℕ). x ∷ n ∷ b ∷ ws) (same_word a (codes "(") first) ∙ ap (λ (x : List ℕ). codes "(" ∷ n ∷ x ∷ ws) (same_word b (codes ")") last)
+    ap (λ (x : List ℕ). x ∷ n ∷ b ∷ ws) (bytes_same a (codes "(") first) ∙ ap (λ (x : List ℕ). codes "(" ∷ n ∷ x ∷ ws) (bytes_same b (codes ")") last)
 
 -- a name in brackets, and where a line stands behind it
 pub record Named (names : Names) (m : Line) (ws : List (List ℕ)) (next : List ℕ → Line) : Type 0 where
@@ -154,7 +152,7 @@ slot_next_back names l m n (w ∷ ws) ih le ends h =
           let o = slot_object_back names l m ws ends p.1 in
           let small : length o.rest ≤ n = omega (arith, le, ap length o.words) in
           let r = slot_named_back names l m ws o (ih (object names l place.SlotBehind o.name) o.rest small o.runs) in
-          subst (λ (x : List ℕ). MoreBack names l m (codes "," ∷ x ∷ ws)) (sym (same_word w (codes "ConstPtr") p.0)) r
+          subst (λ (x : List ℕ). MoreBack names l m (codes "," ∷ x ∷ ws)) (sym (bytes_same w (codes "ConstPtr") p.0)) r
       | inr p ↦
           let v = from_value names (plain_value w) (λ v. pushed l v place.SlotBehind) m ws p.1 in
           slot_word_back names l m w v.0 ws v.1 (ih (pushed l v.0 place.SlotBehind) ws (omega (arith, le)) v.2)
@@ -163,7 +161,7 @@ slot_next_back names l m n (w ∷ ws) ih le ends h =
 pub slots_end_back : (names : Names) (l m : Line) (x : List ℕ) (ws : List (List ℕ)) → bytes_eq x (codes "]") ≡ true → run names (with_frame l l.opened) ws ≡ Some m → MoreBack names l m (x ∷ ws)
 slots_end_back names l m x ws e h =
     let made : MoreBack names l m (codes "]" ∷ ws) = record { slots = []; rest = ws; spelled = slots_end; runs = ap (λ y. run names (with_frame l y) ws) (append-nil l.opened) ∙ h } in
-    subst (λ (y : List ℕ). MoreBack names l m (y ∷ ws)) (sym (same_word x (codes "]") e)) made
+    subst (λ (y : List ℕ). MoreBack names l m (y ∷ ws)) (sym (bytes_same x (codes "]") e)) made
 
 pub more_slots_back : (n : ℕ) (names : Names) (m : Line) → is_done m.place ≡ true → Shorter names m n
 unfolding run
@@ -173,7 +171,7 @@ more_slots_back (suc n) names m ends l (x ∷ ws) le h =
     elim (if_or names (bytes_eq x (codes ",")) (go l place.SlotNext) m (cond (bytes_eq x (codes "]")) (Some (with_frame l l.opened)) None) ws h) [
       | inl p ↦
           let r = slot_next_back names l m n ws (more_slots_back n names m ends) (omega (arith, le)) ends p.1 in
-          subst (λ (y : List ℕ). MoreBack names l m (y ∷ ws)) (sym (same_word x (codes ",") p.0)) r
+          subst (λ (y : List ℕ). MoreBack names l m (y ∷ ws)) (sym (bytes_same x (codes ",") p.0)) r
       | inr p ↦
           let q = if_some names (bytes_eq x (codes "]")) (with_frame l l.opened) m ws p.1 in
           slots_end_back names l m x ws q.0 q.1
@@ -195,7 +193,7 @@ FirstBack names l m ws = SlotsBack names l m [] (SpellsSlots names ws)
 pub slots_none_back : (names : Names) (l m : Line) (x : List ℕ) (ws : List (List ℕ)) → l.opened ≡ [] → bytes_eq x (codes "]") ≡ true → run names (with_frame l l.opened) ws ≡ Some m → FirstBack names l m (x ∷ ws)
 slots_none_back names l m x ws none e h =
     let made : FirstBack names l m (codes "]" ∷ ws) = record { slots = []; rest = ws; spelled = no_slots; runs = ap (λ (y : List Value). run names (with_frame l y) ws) (sym none) ∙ h } in
-    subst (λ (y : List ℕ). FirstBack names l m (y ∷ ws)) (sym (same_word x (codes "]") e)) made
+    subst (λ (y : List ℕ). FirstBack names l m (y ∷ ws)) (sym (bytes_same x (codes "]") e)) made
 
 pub first_word_back : (names : Names) (l m : Line) (w : List ℕ) (v : Value) (ws : List (List ℕ)) → l.opened ≡ [] → plain_value w ≡ Some v → MoreBack names (pushed l v place.SlotBehind) m ws → FirstBack names l m (w ∷ ws)
 first_word_back names l m w v ws none e r =
@@ -218,7 +216,7 @@ slots_back names l m (w ∷ ws) none ends h =
         | inl q ↦
             let o = slot_object_back names l m ws ends q.1 in
             let r = first_named_back names l m ws o none (more_slots_back (length o.rest) names m ends (object names l place.SlotBehind o.name) o.rest (omega arith) o.runs) in
-            subst (λ (x : List ℕ). FirstBack names l m (x ∷ ws)) (sym (same_word w (codes "ConstPtr") q.0)) r
+            subst (λ (x : List ℕ). FirstBack names l m (x ∷ ws)) (sym (bytes_same w (codes "ConstPtr") q.0)) r
         | inr q ↦
             let v = from_value names (plain_value w) (λ v. pushed l v place.SlotBehind) m ws q.1 in
             first_word_back names l m w v.0 ws none v.1 (more_slots_back (length ws) names m ends (pushed l v.0 place.SlotBehind) ws (omega arith) v.2)
@@ -272,7 +270,7 @@ frame_back names l m n w b ws (head.Named name pc) ih le none ends e h =
     let r = ih (with_frame next s.slots) s.rest (omega (arith, le, slots_shorter names ws s.rest s.slots s.spelled)) refl s.runs in
     let f : Slots = record { head = head.Named name pc; slots = s.slots } in
     let made : FramesBack names l m (w ∷ codes "[" ∷ ws) = record { frames = f ∷ r.frames; spelled = one_frame e s.spelled r.spelled; parts = r.parts ∙ ap (λ (x : List Slots). record (parts_of l) { frames = x }) (append_assoc l.frames (f ∷ []) r.frames) } in
-    subst (λ (x : List ℕ). FramesBack names l m (w ∷ x ∷ ws)) (sym (same_word b (codes "[") q.0)) made
+    subst (λ (x : List ℕ). FramesBack names l m (w ∷ x ∷ ws)) (sym (bytes_same b (codes "[") q.0)) made
 
 pub more_frames_back : (n : ℕ) (names : Names) (m : Line) → is_done m.place ≡ true → FewerFrames names m n
 unfolding run
@@ -302,7 +300,7 @@ plain_back names l m w ws is e s =
     let over = ended_back names (with_frame l s.slots) m s.rest (ap frame_end is) s.runs in
     let spelled : SpellsSlots names ws s.slots [] = subst (λ (x : List (List ℕ)). SpellsSlots names ws s.slots x) over.0 s.spelled in
     let made : SnapshotBack names l m (codes "[" ∷ ws) = record { frames = f ∷ []; spelled = snapshot_plain spelled; parts = over.1 ∙ ap (λ (x : Head). record (parts_of l) { frames = l.frames ++ record { head = x; slots = s.slots } ∷ [] }) is } in
-    subst (λ (x : List ℕ). SnapshotBack names l m (x ∷ ws)) (sym (same_word w (codes "[") e)) made
+    subst (λ (x : List ℕ). SnapshotBack names l m (x ∷ ws)) (sym (bytes_same w (codes "[") e)) made
 
 pub of_frames : (names : Names) (l m : Line) (ws : List (List ℕ)) → FramesBack names l m ws → SnapshotBack names l m ws
 of_frames names l m ws r = record { frames = r.frames; spelled = snapshot_framed r.spelled; parts = r.parts }

@@ -1,6 +1,6 @@
 -- What a part answers, through what is done with it.
 use Rattle.std.proofs.Common.{◌≡◌, ℕ, ◌+◌, ◌≤◌, zero, suc, true, false, cond, eqb, List, [], ◌∷◌, length, take, Result, Ok, None, ap, subst, arith}
-use Rattle.text_lines.specs.Reading.{ok_then}
+use Rattle.lists.specs.Refused.{ok_then}
 use Rattle.text_lines.specs.Lines.{lines, in_front}
 use Rattle.trace_ops.specs.declared.table.Table.{Table}
 use Rattle.descr_table.specs.declared.fault.TableFault.{TableFault}

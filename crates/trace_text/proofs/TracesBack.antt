@@ -5,8 +5,7 @@ use Rattle.std.specs.Prelude.{codes}
 use Rattle.std.specs.List.{flat_map}
 use Rattle.text_lines.specs.Words.{is_plain}
 use Rattle.text_lines.specs.Lines.{lines}
-use Rattle.text_lines.specs.Reading.{read_lines, ok_then}
-use Rattle.text_lines.proofs.Written.{line_then_feed}
+use Rattle.lists.specs.Refused.{read_lines, ok_then}
 use Rattle.trace_ops.specs.declared.trace.BoxId.{BoxId}
 use Rattle.trace_ops.specs.declared.trace.Op.{Op}
 use Rattle.trace_ops.specs.declared.trace.Trace.{Trace}
@@ -24,6 +23,7 @@ use Rattle.trace_text.proofs.PiecesBack.{Small}
 use Rattle.trace_text.proofs.OpsBack.{op_line_read}
 use Rattle.trace_text.proofs.LinesBack.{op_body}
 use Rattle.trace_text.proofs.OpeningsBack.{label_body, label_line_read, inputs_body, inputs_line_read, heading, heading_line_read}
+use Rattle.trace_text.proofs.Below.{TextLaws}
 
 abbrev Words : Type 0
 Words = List (List ℕ)
@@ -57,15 +57,15 @@ goes_both names a b d m e h i = record {
   reads = λ n. ap (λ (x : Words). read_lines (read_line names) n x d) (h.whole b) ∙ read_both names (lines a) (lines b) n d m e (h.reads n) i.reads;
 }
 
-one_line : (body : List ℕ) → is_plain body ≡ true → lines (body ++ 10 ∷ []) ≡ body ∷ []
+one_line : (laws : TextLaws) (body : List ℕ) → is_plain body ≡ true → lines (body ++ 10 ∷ []) ≡ body ∷ []
 unfolding lines
-one_line body p = line_then_feed body [] p
+one_line laws body p = laws.spelled.pieces.line_then_feed body [] p
 
-goes_line : (names : Names) (body : List ℕ) (d m : Draft) → is_plain body ≡ true → ((n : ℕ) → read_line names n body d ≡ Ok m) → Goes names (body ++ 10 ∷ []) d m
+goes_line : (laws : TextLaws) (names : Names) (body : List ℕ) (d m : Draft) → is_plain body ≡ true → ((n : ℕ) → read_line names n body d ≡ Ok m) → Goes names (body ++ 10 ∷ []) d m
 unfolding read_lines
-goes_line names body d m p f = record {
-  whole = λ rest. ap lines (append_assoc body (10 ∷ []) rest) ∙ line_then_feed body rest p ∙ ap (λ (x : Words). x ++ lines rest) (sym (one_line body p));
-  reads = λ n. ap (λ (x : Words). read_lines (read_line names) n x d) (one_line body p) ∙ ap (λ r. ok_then r (λ made. Ok made)) (f n);
+goes_line laws names body d m p f = record {
+  whole = λ rest. ap lines (append_assoc body (10 ∷ []) rest) ∙ laws.spelled.pieces.line_then_feed body rest p ∙ ap (λ (x : Words). x ++ lines rest) (sym (one_line laws body p));
+  reads = λ n. ap (λ (x : Words). read_lines (read_line names) n x d) (one_line laws body p) ∙ ap (λ r. ok_then r (λ made. Ok made)) (f n);
 }
 
 goes_as : (names : Names) (a b : List ℕ) (d m : Draft) → a ≡ b → Goes names a d m → Goes names b d m
@@ -77,16 +77,16 @@ abbrev put_all : List Op → Draft → Draft
 put_all [] d = d
 put_all (op ∷ ops) d = put_all ops (with_op op.code op d)
 
-ops_go : (t : Table) (ops : List Op) (d : Draft) → is_open d.phase ≡ true → ReadsOps t d.seen (length d.ops) ops → Goes (names_of t) (flat_map (λ op. op_line t op) ops) d (put_all ops d)
+ops_go : (laws : TextLaws) (t : Table) (ops : List Op) (d : Draft) → is_open d.phase ≡ true → ReadsOps t d.seen (length d.ops) ops → Goes (names_of t) (flat_map (λ op. op_line t op) ops) d (put_all ops d)
 unfolding op_line
-ops_go t [] d e h = goes_nowhere (names_of t) d
-ops_go t (op ∷ ops) d e h =
+ops_go laws t [] d e h = goes_nowhere (names_of t) d
+ops_go laws t (op ∷ ops) d e h =
     let next : Draft = with_op op.code op d in
-    let plain : is_plain (op_body t op) ≡ true = (op_line_read t 0 d op e h.0).0 in
+    let plain : is_plain (op_body t op) ≡ true = (op_line_read laws t 0 d op e h.0).0 in
     let count : length d.ops + 1 ≡ length next.ops = omega (arith, length-append d.ops (op ∷ [])) in
     let rest = subst (λ (n : ℕ). ReadsOps t next.seen n ops) count h.1 in
     goes_both (names_of t) (op_body t op ++ 10 ∷ []) (flat_map (λ op. op_line t op) ops) d next (put_all ops next)
-    (goes_line (names_of t) (op_body t op) d next plain (λ n. (op_line_read t n d op e h.0).1)) (ops_go t ops next refl rest)
+    (goes_line laws (names_of t) (op_body t op) d next plain (λ n. (op_line_read laws t n d op e h.0).1)) (ops_go laws t ops next refl rest)
 
 -- the draft behind operations
 record IsPut (d m : Draft) (ops : List Op) : Type 0 where
@@ -107,23 +107,23 @@ abbrev label_if : Bool → Draft → Draft
 label_if false d = d
 label_if true d = labelled d
 
-label_by : (t : Table) (d : Draft) → d.phase ≡ phase.Label → Each Small d.inputs → Goes (names_of t) (label_body d.inputs ++ 10 ∷ []) d (labelled d)
-label_by t d e h =
+label_by : (laws : TextLaws) (t : Table) (d : Draft) → d.phase ≡ phase.Label → Each Small d.inputs → Goes (names_of t) (label_body d.inputs ++ 10 ∷ []) d (labelled d)
+label_by laws t d e h =
     let behind : is_behind_inputs d.phase ≡ true = ap is_behind_inputs e in
-    goes_line (names_of t) (label_body d.inputs) d (labelled d) (label_line_read t 0 d behind h).0 (λ n. (label_line_read t n d behind h).1)
+    goes_line laws (names_of t) (label_body d.inputs) d (labelled d) (label_line_read laws t 0 d behind h).0 (λ n. (label_line_read laws t n d behind h).1)
 
-label_goes : (t : Table) (b : Bool) (d : Draft) (bs : List BoxId) → d.inputs ≡ bs → d.phase ≡ phase.Label → Each Small bs → Goes (names_of t) (label_line b bs) d (label_if b d)
+label_goes : (laws : TextLaws) (t : Table) (b : Bool) (d : Draft) (bs : List BoxId) → d.inputs ≡ bs → d.phase ≡ phase.Label → Each Small bs → Goes (names_of t) (label_line b bs) d (label_if b d)
 unfolding label_line
-label_goes t false d bs is e h = goes_nowhere (names_of t) d
-label_goes t true d bs is e h =
+label_goes laws t false d bs is e h = goes_nowhere (names_of t) d
+label_goes laws t true d bs is e h =
     let here : Each Small d.inputs = subst (Each Small) (sym is) h in
-    let made : Goes (names_of t) (label_body d.inputs ++ 10 ∷ []) d (labelled d) = label_by t d e here in
+    let made : Goes (names_of t) (label_body d.inputs ++ 10 ∷ []) d (labelled d) = label_by laws t d e here in
     let as_text : label_body d.inputs ++ 10 ∷ [] ≡ (codes "label(" ++ boxes_text bs) ++ codes ")\n" = append_assoc (codes "label(" ++ boxes_text d.inputs) (41 ∷ []) (10 ∷ []) ∙ ap (λ (xs : List BoxId). (codes "label(" ++ boxes_text xs) ++ codes ")\n") is in
     goes_as (names_of t) (label_body d.inputs ++ 10 ∷ []) ((codes "label(" ++ boxes_text bs) ++ codes ")\n") d (labelled d) as_text made
 
-inputs_go : (t : Table) (d : Draft) (bs : List BoxId) → ((n : ℕ) → (is_plain (inputs_body bs) ≡ true) × (read_line (names_of t) n (inputs_body bs) d ≡ Ok (put_inputs bs d))) → Goes (names_of t) (inputs_line bs) d (put_inputs bs d)
+inputs_go : (laws : TextLaws) (t : Table) (d : Draft) (bs : List BoxId) → ((n : ℕ) → (is_plain (inputs_body bs) ≡ true) × (read_line (names_of t) n (inputs_body bs) d ≡ Ok (put_inputs bs d))) → Goes (names_of t) (inputs_line bs) d (put_inputs bs d)
 unfolding inputs_line
-inputs_go t d bs f = goes_as (names_of t) (inputs_body bs ++ 10 ∷ []) (((91 ∷ []) ++ boxes_text bs) ++ codes "]\n") d (put_inputs bs d) (append_assoc ((91 ∷ []) ++ boxes_text bs) (93 ∷ []) (10 ∷ [])) (goes_line (names_of t) (inputs_body bs) d (put_inputs bs d) (f 0).0 (λ n. (f n).1))
+inputs_go laws t d bs f = goes_as (names_of t) (inputs_body bs ++ 10 ∷ []) (((91 ∷ []) ++ boxes_text bs) ++ codes "]\n") d (put_inputs bs d) (append_assoc ((91 ∷ []) ++ boxes_text bs) (93 ∷ []) (10 ∷ [])) (goes_line laws (names_of t) (inputs_body bs) d (put_inputs bs d) (f 0).0 (λ n. (f n).1))
 
 -- the draft behind a trace's lines
 abbrev behind_trace : Trace → Draft → Draft
@@ -137,17 +137,17 @@ label_ops : (t : Table) (b : Bool) (d : Draft) (ops : List Op) → ReadsOps t d.
 label_ops t false d ops h = h
 label_ops t true d ops h = h
 
-trace_goes : (t : Table) (tr : Trace) (d : Draft) → lacks_inputs d.phase ≡ false → trace_count d < 256 → ReadsTrace t tr → Goes (names_of t) (trace_lines t tr) d (behind_trace tr d)
+trace_goes : (laws : TextLaws) (t : Table) (tr : Trace) (d : Draft) → lacks_inputs d.phase ≡ false → trace_count d < 256 → ReadsTrace t tr → Goes (names_of t) (trace_lines t tr) d (behind_trace tr d)
 unfolding trace_lines heading_line
-trace_goes t tr d e lt h =
+trace_goes laws t tr d e lt h =
     let names = names_of t in
     let d1 : Draft = begun (heading tr.origin tr.name) (closed_if d) in
     let d2 : Draft = put_inputs tr.inputs d1 in
     let d3 : Draft = label_if tr.label d2 in
-    let a : Goes names (origin_text tr.origin tr.name ++ 10 ∷ []) d d1 = goes_line names (origin_text tr.origin tr.name) d d1 (heading_line_read t 0 d tr.origin tr.name h.name h.from e lt).0 (λ n. (heading_line_read t n d tr.origin tr.name h.name h.from e lt).1) in
-    let b : Goes names (inputs_line tr.inputs) d1 d2 = inputs_go t d1 tr.inputs (λ n. inputs_line_read t n d1 tr.inputs refl h.inputs h.few) in
-    let c : Goes names (label_line tr.label tr.inputs) d2 d3 = label_goes t tr.label d2 tr.inputs refl refl h.inputs in
-    let f : Goes names (flat_map (λ op. op_line t op) tr.ops) d3 (put_all tr.ops d3) = ops_go t tr.ops d3 (label_open tr.label d2 refl) (label_ops t tr.label d2 tr.ops h.ops) in
+    let a : Goes names (origin_text tr.origin tr.name ++ 10 ∷ []) d d1 = goes_line laws names (origin_text tr.origin tr.name) d d1 (heading_line_read laws t 0 d tr.origin tr.name h.name h.from e lt).0 (λ n. (heading_line_read laws t n d tr.origin tr.name h.name h.from e lt).1) in
+    let b : Goes names (inputs_line tr.inputs) d1 d2 = inputs_go laws t d1 tr.inputs (λ n. inputs_line_read laws t n d1 tr.inputs refl h.inputs h.few) in
+    let c : Goes names (label_line tr.label tr.inputs) d2 d3 = label_goes laws t tr.label d2 tr.inputs refl refl h.inputs in
+    let f : Goes names (flat_map (λ op. op_line t op) tr.ops) d3 (put_all tr.ops d3) = ops_go laws t tr.ops d3 (label_open tr.label d2 refl) (label_ops t tr.label d2 tr.ops h.ops) in
     let ab = goes_both names (origin_text tr.origin tr.name ++ 10 ∷ []) (inputs_line tr.inputs) d d1 d2 a b in
     let abc = goes_both names ((origin_text tr.origin tr.name ++ 10 ∷ []) ++ inputs_line tr.inputs) (label_line tr.label tr.inputs) d d2 d3 ab c in
     goes_both names (((origin_text tr.origin tr.name ++ 10 ∷ []) ++ inputs_line tr.inputs) ++ label_line tr.label tr.inputs) (flat_map (λ op. op_line t op) tr.ops) d d3 (put_all tr.ops d3) abc f
@@ -200,12 +200,12 @@ pub record AllGo (t : Table) (text : List ℕ) (d : Draft) (traces : List Trace)
   pub goes : Goes (names_of t) text d end
   pub done : IsDone end traces
 
-pub traces_go : (t : Table) (front more : List Trace) (d : Draft) → length (front ++ more) ≤ 256 → Each (ReadsTrace t) more → IsDone d front → AllGo t (flat_map (λ tr. trace_lines t tr) more) d (front ++ more)
-traces_go t front [] d le h i = record { end = d; goes = goes_nowhere (names_of t) d; done = subst (IsDone d) (sym (append-nil front)) i }
-traces_go t front (tr ∷ more) d le h i =
+pub traces_go : (laws : TextLaws) (t : Table) (front more : List Trace) (d : Draft) → length (front ++ more) ≤ 256 → Each (ReadsTrace t) more → IsDone d front → AllGo t (flat_map (λ tr. trace_lines t tr) more) d (front ++ more)
+traces_go laws t front [] d le h i = record { end = d; goes = goes_nowhere (names_of t) d; done = subst (IsDone d) (sym (append-nil front)) i }
+traces_go laws t front (tr ∷ more) d le h i =
     let count : trace_count d < 256 = omega (arith, count_by d (is_open d.phase), ap length i.done, length-append front (tr ∷ more), le) in
     let next : Draft = behind_trace tr d in
     let e : (front ++ tr ∷ []) ++ more ≡ front ++ tr ∷ more = append_assoc front (tr ∷ []) more in
-    let here : Goes (names_of t) (trace_lines t tr) d next = trace_goes t tr d i.rest count h.0 in
-    let rest : AllGo t (flat_map (λ tr. trace_lines t tr) more) next ((front ++ tr ∷ []) ++ more) = traces_go t (front ++ tr ∷ []) more next (omega (arith, ap length e, le)) h.1 (trace_done tr d front i) in
+    let here : Goes (names_of t) (trace_lines t tr) d next = trace_goes laws t tr d i.rest count h.0 in
+    let rest : AllGo t (flat_map (λ tr. trace_lines t tr) more) next ((front ++ tr ∷ []) ++ more) = traces_go laws t (front ++ tr ∷ []) more next (omega (arith, ap length e, le)) h.1 (trace_done tr d front i) in
     record { end = rest.end; goes = goes_both (names_of t) (trace_lines t tr) (flat_map (λ tr. trace_lines t tr) more) d next rest.end here rest.goes; done = subst (IsDone rest.end) e rest.done }

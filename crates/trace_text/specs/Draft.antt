@@ -4,7 +4,8 @@ use Rattle.std.specs.Str.{bytes_eq}
 use Rattle.std.specs.List.{list_any}
 use Rattle.text_lines.specs.Words.{words, is_plain}
 use Rattle.text_lines.specs.Lines.{lines}
-use Rattle.text_lines.specs.Reading.{first_of, is_skipped, read_lines}
+use Rattle.lists.specs.Refused.{read_lines}
+use Rattle.text_lines.specs.Reading.{first_of, is_skipped}
 use Rattle.text_lines.specs.declared.number.Letter.{Letter}
 use Rattle.text_lines.specs.declared.number.Letter.TheVariants as letter
 use Rattle.trace_ops.specs.declared.code.OpCode.{OpCode}

@@ -2,7 +2,8 @@
 use Rattle.std.specs.Prelude.{ℕ, ◌+◌, ◌-◌, ◌^◌, Bool, true, false, ◌&&◌, Option, Some, None, List, [], ◌∷◌, ◌==◌, codes, position, take, drop, if◌then◌else◌}
 use Rattle.std.specs.Str.{bytes_eq}
 use Rattle.text_lines.specs.Words.{is_name}
-use Rattle.text_lines.specs.Reading.{◌>>=◌, word_at, name_at, key_at, ended}
+use Rattle.lists.specs.Binds.{◌>>=◌}
+use Rattle.text_lines.specs.Reading.{word_at, name_at, key_at, ended}
 use Rattle.trace_ops.specs.declared.trace.Origin.{Origin}
 use Rattle.trace_ops.specs.declared.trace.Origin.TheVariants as origin
 use Rattle.text_lines.specs.Numbers.{decimal_of}

@@ -9,5 +9,4 @@ pub mod Draft
 pub mod Sections
 pub mod Writing
 pub mod Spelling
-pub mod Constants
 pub mod Merging

@@ -2,7 +2,7 @@
 use Rattle.std.specs.Prelude.{◌≡◌, ℕ, Bool, true, false, Option, Some, None, List, [], ◌∷◌, ◌++◌, codes, if◌then◌else◌}
 use Rattle.std.specs.Str.{bytes_eq}
 use Rattle.text_lines.specs.Words.{is_name}
-use Rattle.text_lines.specs.Reading.{◌>>=◌}
+use Rattle.lists.specs.Binds.{◌>>=◌}
 use Rattle.text_lines.specs.Numbers.{box_of}
 use Rattle.text_lines.specs.declared.number.Letter.{Letter}
 use Rattle.trace_text.specs.declared.value.Value.{Value}

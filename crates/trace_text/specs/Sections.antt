@@ -4,7 +4,8 @@ use Rattle.std.specs.Str.{bytes_eq}
 use Rattle.std.specs.List.{position_or_len}
 use Rattle.text_lines.specs.Words.{words, is_plain}
 use Rattle.text_lines.specs.Lines.{lines}
-use Rattle.text_lines.specs.Reading.{is_skipped, is_end, ok_then}
+use Rattle.lists.specs.Refused.{ok_then}
+use Rattle.text_lines.specs.Reading.{is_skipped, is_end}
 use Rattle.trace_ops.specs.declared.trace.TraceSet.{TraceSet}
 use Rattle.trace_ops.specs.declared.table.Table.{Table}
 use Rattle.descr_table.specs.declared.fault.TableFault.{TableFault}

@@ -2,7 +2,7 @@
 use Rattle.std.specs.Prelude.{ℕ, ℤ, ◌+◌, ◌-◌, ◌^◌, Option, Some, None, List, [], ◌∷◌, ◌==◌, codes, position, take, drop, if◌then◌else◌}
 use Rattle.std.specs.Str.{bytes_eq}
 use Rattle.text_lines.specs.Words.{is_name}
-use Rattle.text_lines.specs.Reading.{◌>>=◌}
+use Rattle.lists.specs.Binds.{◌>>=◌}
 use Rattle.text_lines.specs.Numbers.{decimal_of, integer_of, box_of}
 use Rattle.text_lines.specs.declared.number.Letter.{Letter}
 use Rattle.trace_ops.specs.declared.trace.Arg.{Arg}

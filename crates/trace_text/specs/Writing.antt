@@ -19,30 +19,8 @@ use Rattle.trace_ops.specs.declared.table.SizeRow.{SizeRow}
 use Rattle.trace_ops.specs.declared.table.CallRow.{CallRow}
 use Rattle.trace_ops.specs.declared.table.Table.{Table}
 use Rattle.trace_ops.specs.OpNames.{name_of}
-use Rattle.descr_table.specs.Writing.{size_name, field_name, array_name, prebuilt_name, table_text}
-
--- ---- the names of rows by their numbers
-
-abbrev pub or_nothing : Option (List ℕ) → List ℕ
-or_nothing None = []
-or_nothing (Some name) = name
-
-abbrev pub vtable_in : Option SizeRow → List ℕ
-vtable_in None = []
-vtable_in (Some r) = or_nothing r.vtable
-
-abbrev pub call_name_in : Option CallRow → List ℕ
-call_name_in None = []
-call_name_in (Some r) = r.name
-
-abbrev pub vtable_name : Table → ℕ → List ℕ
-vtable_name t k = vtable_in (slice_get t.sizes k)
-
-abbrev pub call_name : Table → ℕ → List ℕ
-call_name t k = call_name_in (slice_get t.calls k)
-
-abbrev pub function_name : Table → ℕ → List ℕ
-function_name t k = or_nothing (slice_get t.functions k)
+use Rattle.descr_table.specs.Names.{size_name, field_name, array_name, prebuilt_name, vtable_name, call_name, function_name}
+use Rattle.descr_table.specs.Writing.{table_text}
 
 -- ---- pieces of lines
 

@@ -7,7 +7,7 @@ ghost use Rattle.text_lines.specs.Words.{words};
 ghost use Rattle.trace_text.specs.Sections.{is_alone, stops, lines_before, front, back};
 
 use crate::reading::is_section;
-use text_lines::{is_end, is_plain, is_skipped, next_word};
+use text_lines::{is_end, is_plain, is_skipped, next_line, next_word};
 
 /// The line in front of which a text is cut: the session's, one that begins with `%`, or one that says something.
 #[derive(Clone, Copy, Debug)]
@@ -37,35 +37,6 @@ fn stops(until: Until, line: &[u8]) -> bool
     }
 }
 
-fn feed_at(text: &[u8]) -> Option<usize>
-    ensures { result ≡ position (λ c. c == 10) text.now }
-{
-    text.iter().position(|c| *c == b'\n')
-}
-
-#[tactic(auto, using(text_lines::proofs::WordLaws::position_or))]
-fn line_len(text: &[u8]) -> usize
-    ensures value { result ≡ position_or_len (λ c. c == 10) text.now }
-    ensures bound { result ≤ length text.now }
-{
-    feed_at(text).unwrap_or(text.len())
-}
-
-/// The first line, and the text behind its line feed.
-#[tactic(auto, using(text_lines::proofs::LineLaws::lines_first))]
-pub fn cut_line(text: &[u8]) -> (&[u8], &[u8])
-    requires { 0 < length text.now }
-    ensures lines { lines text.now ≡ result.0.now ∷ lines result.1.now }
-    ensures behind { result.1.now ≡ drop (length result.0.now + 1) text.now }
-    ensures within { length result.0.now ≤ length text.now }
-{
-    let end = line_len(text);
-    if end == text.len() {
-        return (text, &[]);
-    }
-    (text.split_at(end).0, text.split_at(end + 1).1)
-}
-
 /// What stands in front of the first such line, what stands from it on, and how many lines are in front.
 pub fn cut(until: Until, text: &[u8]) -> (&[u8], &[u8], u32)
     requires { length (lines text.now) < 2 ^ 32 }
@@ -77,7 +48,7 @@ pub fn cut(until: Until, text: &[u8]) -> (&[u8], &[u8], u32)
     let mut rest = text;
     let mut count = 0u32;
     while !rest.is_empty() {
-        let (line, after) = cut_line(rest);
+        let (line, after) = next_line(rest);
         if stops(until, line) {
             let at = text.len() - rest.len();
             return (text.split_at(at).0, text.split_at(at).1, count);

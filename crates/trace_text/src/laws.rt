@@ -2,8 +2,9 @@
 
 ghost use Rattle.std.specs.Prelude.{◌≡◌, ℕ, List, Some, Ok, Err, true};
 ghost use Rattle.text_lines.specs.Lines.{lines};
-ghost use Rattle.text_lines.specs.FirstBad.{IsFirstBad};
+ghost use Rattle.lists.specs.Refused.{IsFirstBad};
 ghost use Rattle.trace_ops.specs.declared.trace.TraceSet.{TraceSet};
+ghost use Rattle.trace_ops.specs.Constants.{HasWords};
 ghost use Rattle.trace_ops.specs.InRange.{IsInRange};
 ghost use Rattle.trace_text.specs.declared.heading.Heading.{Heading};
 ghost use Rattle.trace_text.specs.declared.line.Line.{Line};
@@ -14,9 +15,11 @@ ghost use Rattle.trace_text.specs.Line.{op_at, inputs_at};
 ghost use Rattle.trace_text.specs.Heading.{heading_at, is_merge};
 ghost use Rattle.trace_text.specs.Merging.{SpellsMerge};
 ghost use Rattle.trace_text.specs.Spelling.{Parts, parts_of, SpellsLine, SpellsSnapshot, SpellsHeading};
-ghost use Rattle.trace_text.specs.Constants.{HasWords};
 ghost use Rattle.trace_text.specs.Draft.{nothing, read_line, lines_at};
 ghost use Rattle.trace_text.specs.Sections.{set_at, IsTableOfText};
+
+use descr_table::{table_laws, tables_are_read_back, tables_have_words};
+use text_lines::lines_are_spelled;
 
 /// What the line of an operation or a label is read as is spelled so, and what is spelled so is read.
 pub fn line_laws()
@@ -42,4 +45,9 @@ pub fn text_laws()
     ensures in_range { (text : List ℕ) (x : TraceSet × ℕ) → set_at text ≡ Ok x → IsInRange x.0 }
     ensures words { (text : List ℕ) (x : TraceSet × ℕ) → set_at text ≡ Ok x → HasWords x.0 }
     ensures first_bad { (names : Names) (first : ℕ) (text : List ℕ) (e : TextFault) → lines_at names first text ≡ Err e → IsFirstBad (read_line names) (lines text) first nothing e }
-{}
+{
+    lines_are_spelled();
+    table_laws();
+    tables_are_read_back();
+    tables_have_words();
+}

@@ -4,7 +4,8 @@ ghost use Rattle.std.specs.Prelude.{◌≡◌, ◌<◌, ◌+◌, ◌^◌, Some, 
 ghost use Rattle.text_lines.specs.Lines.{lines};
 ghost use Rattle.trace_text.specs.Sections.{session_part};
 
-use crate::cut::{Until, cut, cut_line};
+use crate::cut::{Until, cut};
+use text_lines::next_line;
 
 /// The lines behind the `%session` line, and the number of the first; nothing where there is no such line. Lines are
 /// numbered from 1.
@@ -17,6 +18,6 @@ pub fn session_part(bytes: &[u8]) -> Option<(&[u8], u32)>
     if back.is_empty() {
         return None;
     }
-    let (_, behind) = cut_line(back);
+    let (_, behind) = next_line(back);
     Some((behind, count + 2))
 }

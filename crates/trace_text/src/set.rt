@@ -1,6 +1,7 @@
 //! The set that a text stands for.
 
 ghost use Rattle.std.specs.Prelude.{◌≡◌, ◌<◌, ◌+◌, ◌^◌, length, IfOk};
+ghost use Rattle.trace_ops.specs.Constants.{HasWords};
 ghost use Rattle.trace_ops.specs.InRange.{IsInRange};
 ghost use Rattle.text_lines.specs.Lines.{lines};
 ghost use Rattle.descr_table.specs.Meaning.{nothing};
@@ -8,13 +9,14 @@ ghost use Rattle.descr_table.specs.Reading.{table_at};
 ghost use Rattle.trace_text.specs.Faults.{Gives};
 ghost use Rattle.trace_text.specs.Sections.{table_read, set_over, set_with_table, set_opened, set_of, set_at};
 
-use crate::cut::{Until, cut, cut_line, is_alone};
+use crate::cut::{Until, cut, is_alone};
 use crate::draft::finish;
 use crate::fault::{TextFault, table_fault};
 use crate::lexicon::Lexicon;
 use crate::reading::read_all;
-use descr_table::read_table;
+use descr_table::{read_table, table_laws, tables_are_read_back, tables_have_words};
 use std::alloc::Global;
+use text_lines::{lines_are_spelled, next_line};
 use trace_ops::{List, Table, TraceSet};
 
 fn no_table(alloc: Global) -> Table
@@ -83,7 +85,7 @@ fn read_opened(alloc: Global, text: &[u8], first_line: u32, end: u32) -> Result<
     if text.is_empty() {
         return read_traces(alloc, no_table(alloc), text, first_line, end);
     }
-    let (line, rest) = cut_line(text);
+    let (line, rest) = next_line(text);
     if is_alone(b"%table", line) {
         return read_with_table(alloc, rest, first_line + 1, end);
     }
@@ -116,6 +118,11 @@ pub fn read_set(alloc: Global, bytes: &[u8]) -> Result<(TraceSet, usize), TextFa
     requires { 1 + length (lines bytes.now) < 2 ^ 32 }
     ensures read { Gives result (set_at bytes.now) }
     ensures in_range { IfOk result (λ found. IsInRange found.0) }
+    ensures words { IfOk result (λ found. HasWords found.0) }
 {
+    lines_are_spelled();
+    table_laws();
+    tables_are_read_back();
+    tables_have_words();
     read_bytes(alloc, bytes)
 }

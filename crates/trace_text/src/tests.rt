@@ -3,9 +3,11 @@
 use crate::{read_set, write_set};
 use std::alloc::{AllocError, Global};
 use std::test::*;
+use text_lines::lines_are_few;
 
 // What reading answers.
 fn told(alloc: Global, text: &[u8]) -> Result<String, AllocError> {
+    lines_are_few();
     if text.len() > 100000 {
         return String::from_str(alloc, "long");
     }
@@ -204,6 +206,7 @@ fn the_realistic_loop_is_read(rt: HostRuntime) -> Result<(), Fail> {
 
 // What is written of the set that a text stands for.
 fn written(alloc: Global, text: &[u8]) -> Result<Vec<u8>, AllocError> {
+    lines_are_few();
     if text.len() > 100000 {
         return Ok(Vec::new(alloc));
     }

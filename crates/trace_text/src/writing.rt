@@ -3,82 +3,19 @@
 ghost use Rattle.std.specs.Prelude.{◌≡◌, ◌++◌, ◌∷◌, [], ℕ, pos, List, Ok, OnOk, IfOk, nat_lt, length};
 ghost use Rattle.std.specs.List.{flat_map};
 ghost use Rattle.std.specs.Fmt.{signed_decimal};
-ghost use Rattle.descr_table.specs.Writing.{size_name, field_name, array_name, prebuilt_name};
+ghost use Rattle.descr_table.specs.Names.{size_name, field_name, array_name, prebuilt_name, vtable_name, call_name, function_name};
 ghost use Rattle.trace_text.specs.Sections.{set_at};
-ghost use Rattle.trace_text.specs.Writing.{vtable_name, call_name, function_name, letter, box_text, class_text, object_text, arg_text, more_args, args_text, more_boxes, boxes_text, comma_if, cited_text, descr_text, frame_text, snapshot_text, made_text, guard_text, origin_text, called_text, op_line, inputs_line, label_line, heading_line, trace_lines, set_text};
+ghost use Rattle.trace_text.specs.Writing.{letter, box_text, class_text, object_text, arg_text, more_args, args_text, more_boxes, boxes_text, comma_if, cited_text, descr_text, frame_text, snapshot_text, made_text, guard_text, origin_text, called_text, op_line, inputs_line, label_line, heading_line, trace_lines, set_text};
 
-use descr_table::write_table;
+use descr_table::{
+    array_name, call_name, field_name, function_name, prebuilt_name, size_name, table_laws,
+    tables_are_read_back, vtable_name, write_table,
+};
 use std::alloc::{AllocError, Global};
-use text_lines::put_integer;
+use text_lines::{lines_are_spelled, put_integer};
 use trace_ops::{
     Arg, BoxId, Descr, Frame, Kind, Op, Origin, Table, Text, Trace, TraceSet, name_of,
 };
-
-fn size_name(table: &Table, k: u32) -> &[u8]
-    ensures { result.now ≡ size_name table.now k }
-{
-    match table.sizes.items().get(k as usize) {
-        None => &[],
-        Some(row) => row.name.bytes(),
-    }
-}
-
-fn vtable_name(table: &Table, k: u32) -> &[u8]
-    ensures { result.now ≡ vtable_name table.now k }
-{
-    match table.sizes.items().get(k as usize) {
-        None => &[],
-        Some(row) => match &row.vtable {
-            None => &[],
-            Some(name) => name.bytes(),
-        },
-    }
-}
-
-fn field_name(table: &Table, k: u32) -> &[u8]
-    ensures { result.now ≡ field_name table.now k }
-{
-    match table.fields.items().get(k as usize) {
-        None => &[],
-        Some(row) => row.name.bytes(),
-    }
-}
-
-fn array_name(table: &Table, k: u32) -> &[u8]
-    ensures { result.now ≡ array_name table.now k }
-{
-    match table.arrays.items().get(k as usize) {
-        None => &[],
-        Some(row) => row.name.bytes(),
-    }
-}
-
-fn call_name(table: &Table, k: u32) -> &[u8]
-    ensures { result.now ≡ call_name table.now k }
-{
-    match table.calls.items().get(k as usize) {
-        None => &[],
-        Some(row) => row.name.bytes(),
-    }
-}
-
-fn function_name(table: &Table, k: u32) -> &[u8]
-    ensures { result.now ≡ function_name table.now k }
-{
-    match table.functions.items().get(k as usize) {
-        None => &[],
-        Some(name) => name.bytes(),
-    }
-}
-
-fn prebuilt_name(table: &Table, k: u32) -> &[u8]
-    ensures { result.now ≡ prebuilt_name table.now k }
-{
-    match table.prebuilts.items().get(k as usize) {
-        None => &[],
-        Some(row) => row.name.bytes(),
-    }
-}
 
 fn letter(kind: Kind) -> u8
     ensures { result ≡ letter kind }
@@ -381,6 +318,9 @@ pub fn write_set(alloc: Global, set: &TraceSet) -> Result<Vec<u8>, AllocError>
     ensures text { IfOk result (λ v. v.items ≡ set_text set.now) }
     ensures read_back { IfOk result (λ v. (text : List ℕ) (place : ℕ) → set_at text ≡ Ok (set.now, place) → set_at v.items ≡ Ok (set.now, length v.items)) }
 {
+    lines_are_spelled();
+    table_laws();
+    tables_are_read_back();
     let mut out = Vec::new(alloc);
     out.extend_from_slice(b"%table\n")?;
     let rows = write_table(alloc, &set.table)?;

@@ -1,5 +1,5 @@
 use Rattle.text_lines.specs.Lines.{lines}
-use Rattle.text_lines.proofs.FirstBadLaws.{first_bad}
+use Rattle.lists.proofs.FirstBad.{first_bad}
 use Rattle.descr_table.specs.Meaning.{nothing}
 use Rattle.descr_table.specs.Reading.{defined_in, read_line, table_at}
 use Rattle.descr_table.proofs.Again.{form_again}

@@ -1,6 +1,6 @@
 use Rattle.std.proofs.Common.{length}
 use Rattle.text_lines.specs.Lines.{lines}
-use Rattle.text_lines.specs.Reading.{read_lines}
+use Rattle.lists.specs.Refused.{read_lines}
 use Rattle.descr_table.specs.Meaning.{nothing}
 use Rattle.descr_table.specs.Reading.{read_line}
 use Rattle.descr_table.specs.Draft.{table_of, IsDraft}

@@ -2,7 +2,7 @@ use Rattle.std.proofs.Common.{◌≡◌, ℕ, List, Result, subst}
 use Rattle.trace_ops.specs.declared.table.Table.{Table}
 use Rattle.descr_table.specs.declared.fault.TableFault.{TableFault}
 use Rattle.text_lines.specs.Lines.{lines}
-use Rattle.text_lines.specs.Reading.{read_lines}
+use Rattle.lists.specs.Refused.{read_lines}
 use Rattle.descr_table.specs.Meaning.{nothing}
 use Rattle.descr_table.specs.Reading.{defined_in, read_line, table_at, Gives}
 use Rattle.descr_table.proofs.LinesKept.{read_in_range}
@@ -20,4 +20,4 @@ pub returns-in-Ok-clause-read : goal.returns-in-Ok-clause-read
 returns-in-Ok-clause-read c = gives c.read_all.result c.in-Ok.defined c.args.first_line c.args.text.now c.in-Ok.ensures c.read_all.ensures
 
 pub returns-in-Ok-clause-in_range : goal.returns-in-Ok-clause-in_range
-returns-in-Ok-clause-in_range c = read_in_range c.read_all.result c.args.first_line c.args.text.now (gives c.read_all.result c.in-Ok.defined c.args.first_line c.args.text.now c.in-Ok.ensures c.read_all.ensures)
+returns-in-Ok-clause-in_range c = read_in_range c.lines_are_spelled.ensures c.read_all.result c.args.first_line c.args.text.now (gives c.read_all.result c.in-Ok.defined c.args.first_line c.args.text.now c.in-Ok.ensures c.read_all.ensures)

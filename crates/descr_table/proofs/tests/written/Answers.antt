@@ -1,6 +1,5 @@
 use Rattle.std.proofs.Common.{arith}
-use Rattle.text_lines.proofs.LineLaws.{length-lines}
 use Rattle.descr_table.proofs.tests.written.Goals as goal
 
 pub read_table-requires : goal.read_table-requires
-read_table-requires c = omega (arith, length-lines c.args.text.now)
+read_table-requires c = omega (arith, c.lines_are_few.ensures c.args.text.now)

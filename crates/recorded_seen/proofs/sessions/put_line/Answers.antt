@@ -1,6 +1,7 @@
 use Rattle.std.proofs.Common.{rules, ◌≡◌, ◌++◌, ap, ◌∙◌}
+use Rattle.lists.proofs.Results.{on_ok}
 use Rattle.trace_meaning.specs.Starting.{begun}
-use Rattle.recorded_seen.proofs.StartLine.{on_ok, start_text-line_text}
+use Rattle.recorded_seen.proofs.StartLine.{start_text-line_text}
 use Rattle.recorded_seen.proofs.sessions.put_line.Goals as goal
 
 pub returns-in_ok-run-in-Start-clause-text : goal.returns-in_ok-run-in-Start-clause-text

@@ -12,4 +12,4 @@ loop-left-preserved c =
 pub returns-else-is_going : goal.returns-else-is_going
 returns-else-is_going c =
     let ended : is_going (state_of c.loop-left.run.set c.loop-left.run.now) ≡ false = search rules in
-    sym (after-ended c.loop-left.left c.loop-left.run ended) ∙ c.loop-left.invariant
+    sym (after-ended c.recorded_runs.ensures c.loop-left.left c.loop-left.run ended) ∙ c.loop-left.invariant

@@ -1,5 +1,5 @@
 use Rattle.text_lines.specs.Lines.{lines}
-use Rattle.text_lines.proofs.FirstBadLaws.{first_bad}
+use Rattle.lists.proofs.FirstBad.{first_bad}
 use Rattle.session_text.specs.Names.{names_of}
 use Rattle.session_text.specs.Reading.{nothing, read_line, lines_at}
 use Rattle.session_text.proofs.SpelledLine.{spelled_line}

@@ -16,7 +16,7 @@ returns-in_err-read_line-clause-read c =
     rw (p.1, p.2) (ends c.args.set.now c.args.names.now c.in_err-read_line.field-0.0 _ c.loop-rest.number c.loop-rest.rest.now c.next_line.result.0.now c.next_line.result.1.now c.loop-rest.session c.requires.names c.loop-rest.invariant c.next_line.ensures.lines c.in_err-read_line.ensures)
 
 pub loop-rest-preserved : goal.loop-rest-preserved
-loop-rest-preserved c = goes_on c.args.set.now c.args.names.now _ c.loop-rest.number c.loop-rest.rest.now c.next_line.result.0.now c.next_line.result.1.now c.loop-rest.session _ c.requires.names c.loop-rest.invariant c.next_line.ensures.lines c.in_ok-read_line.ensures
+loop-rest-preserved c = goes_on c.lines_are_spelled.ensures c.args.set.now c.args.names.now _ c.loop-rest.number c.loop-rest.rest.now c.next_line.result.0.now c.next_line.result.1.now c.loop-rest.session _ c.requires.names c.loop-rest.invariant c.next_line.ensures.lines c.in_ok-read_line.ensures
 
 pub returns-clause-read : goal.returns-clause-read
 returns-clause-read c = is_done c.args.set.now _ c.loop-rest.number c.loop-rest.rest.now c.loop-rest.session c.loop-rest.invariant (eqb-true _ _ (sym c.loop-rest-test.ensures))

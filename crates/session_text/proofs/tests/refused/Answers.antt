@@ -1,6 +1,5 @@
 use Rattle.std.proofs.Common.{arith}
-use Rattle.text_lines.proofs.LineLaws.{length-lines}
 use Rattle.session_text.proofs.tests.refused.Goals as goal
 
 pub session_of-requires : goal.session_of-requires
-session_of-requires c = omega (arith, length-lines c.args.text.now)
+session_of-requires c = omega (arith, c.lines_are_few.ensures c.args.text.now)

@@ -1,5 +1,5 @@
 use Rattle.std.proofs.Common.{sym, ap, ◌∙◌, ◌++◌, ◌+◌, ◌∷◌, [], arith, ◌≡◌}
-use Rattle.x64_encode.specs.declared.place.Place.TheVariants.{Word}
+use Rattle.target_base.specs.declared.place.Place.TheVariants.{Word}
 use Rattle.straight_run.specs.Layout.{words_from}
 use Rattle.straight_run.proofs.Drawn.{words_push}
 use Rattle.straight_run.proofs.compiler.frame_places.Goals as goal

@@ -10,6 +10,7 @@ returns c = images_are_whole (record {
   stand = c.slots_stand.ensures;
   most = c.spellings_are_short.ensures.most;
   least = c.spellings_are_short.ensures.least;
-  one = c.one_instruction.ensures;
+  one = c.steps_have_one_outcome.ensures.step;
+  stop = c.runs_compose.ensures.stop;
   finish = c.straight_pieces_finish.ensures;
 }) c.slots_are_whole.ensures

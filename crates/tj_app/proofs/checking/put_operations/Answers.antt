@@ -1,5 +1,5 @@
 use Rattle.std.proofs.Common.{◌++◌, ap, ◌∙◌, append_assoc, codes, decimal}
-use Rattle.tj_app.proofs.Joined.{on_ok}
+use Rattle.lists.proofs.Results.{on_ok}
 use Rattle.tj_app.proofs.checking.put_operations.Goals as goal
 
 pub returns : goal.returns

@@ -1,6 +1,5 @@
 use Rattle.std.proofs.Common.{arith}
-use Rattle.text_lines.proofs.LineLaws.{length-lines}
 use Rattle.tj_app.proofs.checking.set_of.Goals as goal
 
 pub read_set-requires : goal.read_set-requires
-read_set-requires c = omega (arith, length-lines c.args.bytes.now, c.requires)
+read_set-requires c = omega (arith, c.lines_are_few.ensures c.args.bytes.now, c.requires)

@@ -1,4 +1,5 @@
-use Rattle.tj_app.proofs.Joined.{on_ok, joined5}
+use Rattle.lists.proofs.Results.{on_ok}
+use Rattle.tj_app.proofs.Joined.{joined5}
 use Rattle.tj_app.proofs.image_text.put_exit_front.Goals as goal
 
 pub returns : goal.returns

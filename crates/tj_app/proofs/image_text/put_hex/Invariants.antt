@@ -1,7 +1,9 @@
-use Rattle.std.proofs.Common.{◌≡◌, ◌≤◌, ◌<◌, ◌++◌, drop}
+use Rattle.std.proofs.Common.{◌≡◌, ◌++◌, length}
 use Rattle.tj_app.specs.Output.{hex_from}
 use Rattle.tj_app.proofs.image_text.put_hex.Given as goal
 
-abbrev pub invariant-loop-byte : goal.invariant-loop-byte
-invariant-loop-byte l =
-    (0 < l.room) × (l.room ≤ 32) × (l.out.items ++ hex_from l.room (drop l.byte-index l.bytes) ≡ l.fn.out.items ++ hex_from 32 l.bytes)
+abbrev pub invariant-loop-rest : goal.invariant-loop-rest
+invariant-loop-rest l = l.out.items ++ hex_from 32 l.rest ≡ l.fn.out.items ++ hex_from 32 l.bytes
+
+abbrev pub decreases-loop-rest : goal.decreases-loop-rest
+decreases-loop-rest l = length l.rest

@@ -1,4 +1,5 @@
-use Rattle.tj_app.proofs.Joined.{on_ok, joined3}
+use Rattle.lists.proofs.Results.{on_ok}
+use Rattle.tj_app.proofs.Joined.{joined3}
 use Rattle.tj_app.proofs.image_text.put_parts.Goals as goal
 
 pub returns : goal.returns

@@ -6,4 +6,4 @@ use Rattle.trace_check.proofs.Knowing.{all_known}
 use Rattle.trace_check.proofs.walk.knows_all.Goals as goal
 
 pub returns : goal.returns
-returns c = all_known (known_before c.args.trace.now c.args.k) c.args.op.now c.knows_all.result (c.knows_all.ensures ∙ ap (λ (s : List BoxId). knows_all s c.args.op.now) c.requires)
+returns c = all_known c.equality_decides.ensures (known_before c.args.trace.now c.args.k) c.args.op.now c.knows_all.result (c.knows_all.ensures ∙ ap (λ (s : List BoxId). knows_all s c.args.op.now) c.requires)

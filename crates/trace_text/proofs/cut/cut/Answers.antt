@@ -5,13 +5,13 @@ use Rattle.trace_text.proofs.Cuts.{goes_on, at_line, at_end, front_whole, back_w
 use Rattle.trace_text.proofs.cut.cut.Goals as goal
 
 pub returns-then-stops-clause-front : goal.returns-then-stops-clause-front
-returns-then-stops-clause-front c = c.split_at.ensures.front ∙ ap (λ k. take k c.args.text.now) (at_line (stops c.args.until) c.args.text.now c.loop-rest.rest.now c.cut_line.result.0.now c.cut_line.result.1.now c.loop-rest.count c.loop-rest.invariant c.cut_line.ensures.lines (sym c.stops.ensures ∙ c.if-stops.true)).place
+returns-then-stops-clause-front c = c.split_at.ensures.front ∙ ap (λ k. take k c.args.text.now) (at_line (stops c.args.until) c.args.text.now c.loop-rest.rest.now c.next_line.result.0.now c.next_line.result.1.now c.loop-rest.count c.loop-rest.invariant c.next_line.ensures.lines (sym c.stops.ensures ∙ c.if-stops.true)).place
 
 pub returns-then-stops-clause-back : goal.returns-then-stops-clause-back
-returns-then-stops-clause-back c = c.split_at-then-stops.ensures.back ∙ ap (λ k. drop k c.args.text.now) (at_line (stops c.args.until) c.args.text.now c.loop-rest.rest.now c.cut_line.result.0.now c.cut_line.result.1.now c.loop-rest.count c.loop-rest.invariant c.cut_line.ensures.lines (sym c.stops.ensures ∙ c.if-stops.true)).place
+returns-then-stops-clause-back c = c.split_at-then-stops.ensures.back ∙ ap (λ k. drop k c.args.text.now) (at_line (stops c.args.until) c.args.text.now c.loop-rest.rest.now c.next_line.result.0.now c.next_line.result.1.now c.loop-rest.count c.loop-rest.invariant c.next_line.ensures.lines (sym c.stops.ensures ∙ c.if-stops.true)).place
 
 pub loop-rest-preserved : goal.loop-rest-preserved
-loop-rest-preserved c = goes_on (stops c.args.until) c.args.text.now c.loop-rest.rest.now c.cut_line.result.0.now c.cut_line.result.1.now c.loop-rest.count c.loop-rest.invariant c.cut_line.ensures.lines c.cut_line.ensures.behind c.cut_line.ensures.within (sym c.stops.ensures ∙ c.if-stops.false)
+loop-rest-preserved c = goes_on (stops c.args.until) c.args.text.now c.loop-rest.rest.now c.next_line.result.0.now c.next_line.result.1.now c.loop-rest.count c.loop-rest.invariant c.next_line.ensures.lines c.next_line.ensures.behind c.next_line.ensures.within (sym c.stops.ensures ∙ c.if-stops.false)
 
 pub returns-clause-front : goal.returns-clause-front
 returns-clause-front c = front_whole c.args.text.now _ (at_end (stops c.args.until) c.args.text.now c.loop-rest.rest.now c.loop-rest.count c.loop-rest.invariant (eqb-true _ _ (sym c.loop-rest-test.ensures))).place

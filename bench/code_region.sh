@@ -7,16 +7,16 @@ top=$(cd "$(dirname "$0")/.." && pwd)
 work=$(mktemp -d)
 trap 'rm -rf "$work"' EXIT
 mkdir -p "$work/crates/region_speed/src"
-for crate in x64_encode code_region; do
+for crate in target_base code_region; do
     mkdir -p "$work/crates/$crate"
     for part in src specs proofs out; do
         if [ -d "$top/crates/$crate/$part" ]; then cp -r "$top/crates/$crate/$part" "$work/crates/$crate/"; fi
     done
 done
 cat > "$work/crates.txt" <<'EOF'
-x64_encode: byteorder
-code_region: x64_encode
-region_speed: x64_encode code_region anyhow
+target_base:
+code_region: target_base
+region_speed: target_base code_region anyhow
 EOF
 cat > "$work/crates/region_speed/src/main.rt" <<'EOF'
 //! Appends 40 MB in pieces of 100 bytes, fetches at a million places, and prints how long each took.
@@ -28,7 +28,7 @@ use anyhow::Result;
 use code_region::Region;
 use std::alloc::AllocError;
 use std::time::Instant;
-use x64_encode::Fetch;
+use target_base::Fetch;
 
 const PIECES: u32 = 400_000;
 const FETCHES: u32 = 1_000_000;

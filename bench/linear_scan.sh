@@ -10,12 +10,12 @@ top=$(cd "$(dirname "$0")/.." && pwd)
 work=$(mktemp -d)
 trap 'rm -rf "$work"' EXIT
 mkdir -p "$work/crates/scan_speed/src" "$work/crates/scan_speed/proofs"
-for crate in trace_ops x64_encode linear_scan; do
+for crate in trace_ops target_base linear_scan; do
     cp -r "$top/crates/$crate" "$work/crates/"
     rm -rf "$work/crates/$crate/must-fail"
 done
-grep -E '^(trace_ops|x64_encode|linear_scan):' "$top/crates.txt" > "$work/crates.txt"
-echo 'scan_speed: trace_ops x64_encode linear_scan anyhow' >> "$work/crates.txt"
+grep -E '^(trace_ops|target_base|linear_scan):' "$top/crates.txt" > "$work/crates.txt"
+echo 'scan_speed: trace_ops target_base linear_scan anyhow' >> "$work/crates.txt"
 cat > "$work/crates/scan_speed/src/main.rt" <<'EOF'
 //! Makes pieces, and prints how long their lives and places take.
 #![tactic(auto)]
@@ -31,7 +31,7 @@ use linear_scan::{Places, allocate, ranges};
 use std::alloc::{AllocError, Global};
 use std::time::{Duration, Instant};
 use trace_ops::{Arg, BoxId, Descr, Half, Kind, List, OpCode, OptOp, Piece, PieceId, Shape, ShapeOf, Snapshot, Val};
-use x64_encode::Place;
+use target_base::Place;
 
 type Made<T> = std::result::Result<T, AllocError>;
 

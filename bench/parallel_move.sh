@@ -9,14 +9,14 @@ top=$(cd "$(dirname "$0")/.." && pwd)
 work=$(mktemp -d)
 trap 'rm -rf "$work"' EXIT
 mkdir -p "$work/crates/move_speed/src"
-for crate in x64_encode parallel_move; do
+for crate in target_base parallel_move; do
     cp -r "$top/crates/$crate" "$work/crates/"
     rm -rf "$work/crates/$crate/must-fail"
 done
 cat > "$work/crates.txt" <<'EOF'
-x64_encode: byteorder
-parallel_move: x64_encode
-move_speed: x64_encode parallel_move anyhow
+target_base:
+parallel_move: target_base
+move_speed: target_base parallel_move anyhow
 EOF
 # pairs STEP COUNT OVER: word k gets word k + STEP, or that less OVER where there is one
 pairs() {
@@ -36,7 +36,7 @@ pairs() {
 use anyhow::Result;
 use parallel_move::moves;
 use std::time::Instant;
-use x64_encode::Place;
+use target_base::Place;
 
 const TIMES: u32 = $times;
 

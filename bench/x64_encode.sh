@@ -10,10 +10,11 @@ top=$(cd "$(dirname "$0")/.." && pwd)
 work=$(mktemp -d)
 trap 'rm -rf "$work"' EXIT
 mkdir -p "$work/crates/encodings/src"
-cp -r "$top/crates/x64_encode" "$work/crates/"
+cp -r "$top/crates/target_base" "$top/crates/x64_encode" "$work/crates/"
 cat > "$work/crates.txt" <<'EOF'
-x64_encode: byteorder
-encodings: x64_encode
+target_base:
+x64_encode: target_base byteorder
+encodings: target_base x64_encode
 EOF
 cat > "$work/crates/encodings/src/main.rt" <<'EOF'
 //! Prints instructions beside their bytes, one a line.

@@ -8,14 +8,15 @@ top=$(cd "$(dirname "$0")/.." && pwd)
 work=$(mktemp -d)
 trap 'rm -rf "$work"' EXIT
 mkdir -p "$work/crates/step_speed/src"
-for crate in x64_encode x64_machine; do
+for crate in target_base x64_encode x64_machine; do
     cp -r "$top/crates/$crate" "$work/crates/"
     rm -rf "$work/crates/$crate/must-fail"
 done
 cat > "$work/crates.txt" <<EOF
-x64_encode: byteorder
-x64_machine: x64_encode
-step_speed: x64_encode x64_machine
+target_base:
+x64_encode: target_base byteorder
+x64_machine: target_base x64_encode
+step_speed: target_base x64_encode x64_machine
 EOF
 cat > "$work/crates/step_speed/src/main.rt" <<'EOF'
 //! Steps a loop of ten instructions, and prints how long it took.
@@ -102,6 +103,6 @@ fn main(rt: HostRuntime) -> Result<()> {
 }
 EOF
 sed -i "s/STEPS/$steps/" "$work/crates/step_speed/src/main.rt"
-sed -i 's/^step_speed:.*/step_speed: x64_encode x64_machine anyhow/' "$work/crates.txt"
+sed -i 's/^step_speed:.*/step_speed: target_base x64_encode x64_machine anyhow/' "$work/crates.txt"
 cd "$work/crates/step_speed"
 rt run 2>"$work/log" || { cat "$work/log" >&2; exit 1; }

@@ -15,6 +15,3 @@ pub use laws::{
 pub use making::{Full, allocate, bytes_asked, bytes_left};
 pub use walk::{Found, begins_at, object_at, words_ahead};
 pub use walked::Walked;
-
-#[cfg(test)]
-mod tests;

@@ -6,6 +6,3 @@ mod link;
 mod region;
 
 pub use region::Region;
-
-#[cfg(test)]
-mod tests;

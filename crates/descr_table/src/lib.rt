@@ -24,6 +24,3 @@ pub use names::{
 };
 pub use reading::read_table;
 pub use writing::write_table;
-
-#[cfg(test)]
-mod tests;

@@ -15,6 +15,3 @@ pub use laws::{
 };
 pub use observed::roots;
 pub use walk::listing;
-
-#[cfg(test)]
-mod tests;

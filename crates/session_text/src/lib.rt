@@ -14,6 +14,3 @@ pub use fault::{Reason, SessionFault};
 pub use laws::{name_laws, session_laws};
 pub use reading::{read_session, session_of};
 pub use session::{Line, SessionText};
-
-#[cfg(test)]
-mod tests;

@@ -10,6 +10,3 @@ pub use arena::ArenaWords;
 pub use fetch::{Fetch, PlainCode};
 pub use place::{Place, same_place};
 pub use reg::{Reg, same_reg};
-
-#[cfg(test)]
-mod tests;

@@ -16,6 +16,3 @@ pub use number::{Letter, box_of, decimal_of, integer_of, put_integer};
 pub use reading::{is_end, is_skipped, key_at, name_at};
 pub use word::{is_name, is_plain, next_word};
 pub use writing::{put_line, put_word};
-
-#[cfg(test)]
-mod tests;

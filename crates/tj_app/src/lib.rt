@@ -21,6 +21,3 @@ pub use refusal::{Fault, fault_line};
 pub use session_text::{Line, Reason, SessionFault, read_session};
 pub use unbuilt::Unbuilt;
 pub use words::{Command, command_of, word_laws};
-
-#[cfg(test)]
-mod tests;

@@ -17,8 +17,6 @@ mod routes;
 mod run;
 mod state;
 mod steps;
-#[cfg(test)]
-mod tests;
 mod value;
 mod world;
 

@@ -139,6 +139,3 @@ pub use word::wrap_rshift;
 pub use word::wrap_sub;
 pub use word::wrap_unsigned_rshift;
 pub use word::wrap_xor;
-
-#[cfg(test)]
-mod tests;

@@ -22,6 +22,3 @@ pub use laws::{line_laws, opening_laws, text_laws};
 pub use session::session_part;
 pub use set::read_set;
 pub use writing::write_set;
-
-#[cfg(test)]
-mod tests;

@@ -1,0 +1,5 @@
+//! What the program answers.
+#![tactic(auto)]
+
+#[cfg(test)]
+mod answers;

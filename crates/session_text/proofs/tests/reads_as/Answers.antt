@@ -1,5 +1,0 @@
-use Rattle.std.proofs.Common.{arith}
-use Rattle.session_text.proofs.tests.reads_as.Goals as goal
-
-pub read_session-requires : goal.read_session-requires
-read_session-requires c = omega (arith, c.lines_are_few.ensures c.args.text.now)

@@ -7,3 +7,6 @@ pub mod Equal
 pub mod Narrowed
 pub mod Told
 pub mod Folded
+pub mod Fitting
+pub mod Settled
+pub mod Nearness

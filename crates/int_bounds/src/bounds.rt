@@ -1,5 +1,5 @@
 //! Where the results of integer operations lie, operation by operation.
-ghost use Rattle.std.specs.Prelude.{ℤ, pos, IfSome};
+ghost use Rattle.std.specs.Prelude.{◌≡◌, ℤ, pos, IfSome};
 ghost use Rattle.trace_ops.specs.Folds.{unary, binary};
 ghost use Rattle.int_bounds.specs.Within.{IsWithin};
 ghost use Rattle.int_bounds.specs.Near.{IsNearOne, IsNearTwo};
@@ -14,7 +14,8 @@ use trace_ops::OpCode;
 
 // Only 0.
 fn zero() -> Interval
-    ensures { IsWithin result (pos 0) }
+    ensures contains { IsWithin result (pos 0) }
+    ensures only { (y : ℤ) → IsWithin result y → y ≡ pos 0 }
 {
     Interval { low: 0, high: 0 }
 }

@@ -8,6 +8,7 @@ mod interval;
 mod narrowing;
 mod only;
 mod outcomes;
+mod overflowing;
 mod products;
 mod results;
 mod shifts;
@@ -18,6 +19,7 @@ mod unsigned;
 
 pub use interval::Interval;
 pub use narrowing::narrow;
+pub use overflowing::overflows_never;
 pub use results::transfer;
 
 #[cfg(test)]

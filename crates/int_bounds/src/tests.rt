@@ -99,3 +99,18 @@ fn unsigned_comparisons_are_decided_where_they_can_be(rt: HostRuntime) {
         assert_eq!(rt; at_least, words(low, high));
     }
 }
+
+// Sums, differences and products at the edges of words, by whole numbers without bounds.
+#[test]
+fn overflow_is_told_from_the_bounds(rt: HostRuntime) {
+    let near = words(i64::MAX - 10, i64::MAX - 1);
+    assert!(rt; overflows_never(OpCode::IntAddOvf, near, words(-5, 1)));
+    assert!(rt; !overflows_never(OpCode::IntAddOvf, near, words(-5, 2)));
+    let far = words(i64::MIN + 1, 0);
+    assert!(rt; overflows_never(OpCode::IntSubOvf, far, words(-5, 1)));
+    assert!(rt; !overflows_never(OpCode::IntSubOvf, far, words(-5, 2)));
+    let large = words(-3037000499, 3037000499);
+    assert!(rt; overflows_never(OpCode::IntMulOvf, large, large));
+    assert!(rt; !overflows_never(OpCode::IntMulOvf, large, words(0, 3037000501)));
+    assert!(rt; overflows_never(OpCode::IntAdd, near, near));
+}

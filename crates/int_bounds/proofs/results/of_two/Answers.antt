@@ -10,6 +10,6 @@ returns-clause-near c =
     let y : FitsSigned w64 c.in-Some-only.y = search rules in
     let z : FitsSigned w64 c.in-Some-fold.z = search rules in
     near-folded c.args.code c.args.a c.args.b _ c.in-Some.x c.in-Some-only.y c.in-Some-fold.z x y
-    c.in-Some.ensures.low c.in-Some.ensures.high c.in-Some-only.ensures.low c.in-Some-only.ensures.high
+    c.in-Some.ensures.low c.in-Some.ensures.high c.in-Some-only.ensures.low c.in-Some-only.ensures.high c.args.a.ordered c.args.b.ordered
     (rw (to_z-of_z w64 c.in-Some.x x, to_z-of_z w64 c.in-Some-only.y y) at c.in-Some-fold.ensures.value)
     (to_z-of_z w64 c.in-Some-fold.z z) (to_z-of_z w64 c.in-Some-fold.z z)

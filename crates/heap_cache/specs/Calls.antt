@@ -5,7 +5,7 @@ use Rattle.trace_ops.specs.declared.trace.Arg.{Arg}
 use Rattle.trace_ops.specs.declared.piece.Val.{Val}
 use Rattle.trace_ops.specs.declared.piece.Spot.{Spot}
 use Rattle.trace_ops.specs.declared.piece.Pending.{Pending}
-use Rattle.heap_cache.specs.Content.{Content, empty, same_base, same_spot, late, value_at, is_at, is_through, is_among, is_field, is_item, noted, wrote, flushed, flushed_all, forgot, forgot_items}
+use Rattle.heap_cache.specs.Content.{Content, empty, same_base, same_spot, late, value_at, is_at, is_through, is_among, is_field, is_item, is_item_store, noted, wrote, flushed, flushed_all, flushed_items, forgot, forgot_items}
 
 -- what each spot of each object holds
 abbrev pub Store : Type 0
@@ -17,6 +17,7 @@ pub data Call : Type 0 where
   Writes : Arg → Spot → Val → Call
   Flushes : List Spot → Call
   FlushesAll : Call
+  FlushesItems : ℕ → Call
   Forgets : List ℕ → Call
   ForgetsItems : ℕ → Call
   Changes : (Store → Store) → Call
@@ -26,6 +27,7 @@ after_call (Notes b s v) c = noted b s v c
 after_call (Writes b s v) c = wrote b s v c
 after_call (Flushes ss) c = flushed ss c
 after_call FlushesAll c = flushed_all c
+after_call (FlushesItems a) c = flushed_items a c
 after_call (Forgets fs) c = forgot fs c
 after_call (ForgetsItems a) c = forgot_items a c
 after_call (Changes f) c = c
@@ -36,6 +38,7 @@ out_of (Notes b s v) c = []
 out_of (Writes b s v) c = filter (is_through b s) c.pending
 out_of (Flushes ss) c = filter (is_among ss) c.pending
 out_of FlushesAll c = c.pending
+out_of (FlushesItems a) c = filter (is_item_store a) c.pending
 out_of (Forgets fs) c = []
 out_of (ForgetsItems a) c = []
 out_of (Changes f) c = []
@@ -52,6 +55,7 @@ Gives (Notes b s v) base spot value = (b ≡ base) × (s ≡ spot) × (v ≡ val
 Gives (Writes b s v) base spot value = (b ≡ base) × (s ≡ spot) × (v ≡ value)
 Gives (Flushes ss) base spot value = ⊥
 Gives FlushesAll base spot value = ⊥
+Gives (FlushesItems a) base spot value = ⊥
 Gives (Forgets fs) base spot value = ⊥
 Gives (ForgetsItems a) base spot value = ⊥
 Gives (Changes f) base spot value = ⊥
@@ -62,6 +66,7 @@ Keeps (Notes b s v) base spot = (b ≡ base) × (s ≡ spot) → ⊥
 Keeps (Writes b s v) base spot = s ≢ spot
 Keeps (Flushes ss) base spot = Unit {0}
 Keeps FlushesAll base spot = Unit {0}
+Keeps (FlushesItems a) base spot = Unit {0}
 Keeps (Forgets fs) base spot = is_field fs spot ≡ false
 Keeps (ForgetsItems a) base spot = is_item a spot ≡ false
 Keeps (Changes f) base spot = Unit {0}
@@ -87,6 +92,7 @@ fate (Notes b s v) p = Stays
 fate (Writes b s v) p = if same_spot p.spot s then (if same_base p.base b then IsReplaced else ComesOut) else Stays
 fate (Flushes ss) p = if is_among ss p then ComesOut else Stays
 fate FlushesAll p = ComesOut
+fate (FlushesItems a) p = if is_item_store a p then ComesOut else Stays
 fate (Forgets fs) p = Stays
 fate (ForgetsItems a) p = Stays
 fate (Changes f) p = Stays
@@ -106,6 +112,7 @@ new_of (Writes b s v) = late b s v ∷ []
 new_of (Notes b s v) = []
 new_of (Flushes ss) = []
 new_of FlushesAll = []
+new_of (FlushesItems a) = []
 new_of (Forgets fs) = []
 new_of (ForgetsItems a) = []
 new_of (Changes f) = []
@@ -140,6 +147,7 @@ at_once object (Writes b s v ∷ earlier) store = put object (late b s v) (at_on
 at_once object (Notes b s v ∷ earlier) store = at_once object earlier store
 at_once object (Flushes ss ∷ earlier) store = at_once object earlier store
 at_once object (FlushesAll ∷ earlier) store = at_once object earlier store
+at_once object (FlushesItems a ∷ earlier) store = at_once object earlier store
 at_once object (Forgets fs ∷ earlier) store = at_once object earlier store
 at_once object (ForgetsItems a ∷ earlier) store = at_once object earlier store
 at_once object (Changes f ∷ earlier) store = f (at_once object earlier store)
@@ -175,6 +183,7 @@ NotesAreTrue object (Notes b s v ∷ earlier) store = (at_once object earlier st
 NotesAreTrue object (Writes b s v ∷ earlier) store = NotesAreTrue object earlier store
 NotesAreTrue object (Flushes ss ∷ earlier) store = NotesAreTrue object earlier store
 NotesAreTrue object (FlushesAll ∷ earlier) store = NotesAreTrue object earlier store
+NotesAreTrue object (FlushesItems a ∷ earlier) store = NotesAreTrue object earlier store
 NotesAreTrue object (Forgets fs ∷ earlier) store = NotesAreTrue object earlier store
 NotesAreTrue object (ForgetsItems a ∷ earlier) store = NotesAreTrue object earlier store
 NotesAreTrue object (Changes f ∷ earlier) store = NotesAreTrue object earlier store

@@ -69,11 +69,11 @@ is_among spots p = list_any (λ s. same_spot s p.spot) spots
 abbrev pub is_off_all : List Spot → Pending → Bool
 is_off_all spots p = not (is_among spots p)
 
-abbrev pub is_field_store : List ℕ → Pending → Bool
-is_field_store fields p = is_field fields p.spot
-
 abbrev pub is_item_store : ℕ → Pending → Bool
 is_item_store array p = is_item array p.spot
+
+abbrev pub is_off_items : ℕ → Pending → Bool
+is_off_items array p = not (is_item array p.spot)
 
 -- What each call makes of the content
 
@@ -91,6 +91,9 @@ flushed spots c = record { known = c.known; pending = filter (is_off_all spots) 
 
 abbrev pub flushed_all : Content → Content
 flushed_all c = record { known = c.known; pending = [] }
+
+abbrev pub flushed_items : ℕ → Content → Content
+flushed_items array c = record { known = c.known; pending = filter (is_off_items array) c.pending }
 
 abbrev pub forgot : List ℕ → Content → Content
 forgot fields c = record { known = filter (λ e. not (is_field fields e.0.spot)) c.known; pending = c.pending }

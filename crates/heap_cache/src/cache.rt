@@ -1,11 +1,10 @@
 //! The cache itself: what is known of spots, and the stores that are held back.
 
-ghost use Rattle.std.specs.Prelude.{◌≡◌, false, filter, IfOk, OnOk, OnErr};
-ghost use Rattle.std.specs.List.{list_any};
-ghost use Rattle.heap_cache.specs.Content.{empty, value_at, noted, wrote, flushed, flushed_all, forgot, forgot_items, is_at, is_among, is_through, is_field_store, is_item_store};
+ghost use Rattle.std.specs.Prelude.{◌≡◌, filter, IfOk, OnOk, OnErr};
+ghost use Rattle.heap_cache.specs.Content.{empty, value_at, noted, wrote, flushed, flushed_all, flushed_items, forgot, forgot_items, is_among, is_through, is_item_store};
 
 use crate::key::{Key, is_elsewhere, is_field, is_item};
-use crate::picks::{among, elsewhere, off, off_all};
+use crate::picks::{among, elsewhere, items, off, off_all, off_items};
 use indexmap::IndexMap;
 use std::alloc::{AllocError, Global};
 use std::marker::Model;
@@ -54,9 +53,9 @@ impl Cache {
         self.pending.as_slice()
     }
 
-    /// The spot has this value, after a read or a store that was done at once. No store to the spot may be pending.
+    /// The spot has this value, after a read or a store that was done at once. Whoever calls it sees to it that no pending
+    /// store is to change the spot.
     pub fn note(&mut self, base: Arg, spot: Spot, value: Val) -> Result<(), AllocError>
-        requires { list_any (is_at spot) self.old.pending ≡ false }
         ensures ok { OnOk result (self.new ≡ noted base spot value self.old) }
         ensures err { OnErr result (self.new ≡ self.old) }
     {
@@ -107,17 +106,39 @@ impl Cache {
         Ok(out)
     }
 
-    /// Nothing is known of these fields from now on. No store to one of them may be pending.
+    /// The pending stores to items of this kind of array come out, in order, to be done now. What is known stays.
+    pub fn flush_items(&mut self, array: u32) -> Result<Vec<Pending>, AllocError>
+        ensures ok { OnOk result (self.new ≡ flushed_items array self.old) }
+        ensures out { IfOk result (λ out. out.items ≡ filter (is_item_store array) self.old.pending) }
+        ensures err { OnErr result (self.new ≡ self.old) }
+    {
+        let out = items(self.alloc, &self.pending, array)?;
+        self.pending = off_items(self.alloc, &self.pending, array)?;
+        Ok(out)
+    }
+
+    /// What is known, in the order in which it became known.
+    pub fn known(&self) -> Result<Vec<(Key, Val)>, AllocError>
+        ensures { IfOk result (λ known. known.items ≡ self.now.known) }
+    {
+        let mut known = Vec::new(self.alloc);
+        for i in 0..self.known.len() {
+            if let Some((k, v)) = self.known.get_index(i) {
+                known.push((*k, *v))?;
+            }
+        }
+        Ok(known)
+    }
+
+    /// Nothing is known of these fields from now on. Pending stores stay.
     pub fn forget(&mut self, fields: &[u32])
-        requires { list_any (is_field_store fields.now) self.old.pending ≡ false }
         ensures { self.new ≡ forgot fields.now self.old }
     {
         self.known.retain(|k, _| !is_field(fields, k.spot));
     }
 
-    /// Nothing is known of the items of this kind of array from now on. No store to such an item may be pending.
+    /// Nothing is known of the items of this kind of array from now on. Pending stores stay.
     pub fn forget_items(&mut self, array: u32)
-        requires { list_any (is_item_store array) self.old.pending ≡ false }
         ensures { self.new ≡ forgot_items array self.old }
     {
         self.known.retain(|k, _| !is_item(array, k.spot));

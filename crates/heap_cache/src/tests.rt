@@ -75,3 +75,25 @@ fn notes_are_read_until_forgotten(rt: HostRuntime) -> Result<(), Fail> {
     assert_eq!(rt; cache.read(object(1), item), None);
     Ok(())
 }
+
+#[test]
+fn items_are_flushed_and_what_is_known_is_listed(rt: HostRuntime) -> Result<(), Fail> {
+    let x = Spot::Field(0);
+    let item = Spot::Item(3, 1);
+    let mut cache = Cache::new(rt.alloc())?;
+    cache.write_late(object(0), x, word(5))?;
+    cache.write_late(object(0), item, word(6))?;
+    cache.note(object(1), x, word(7))?;
+    let out = cache.flush_items(3)?;
+    let store = Pending {
+        base: object(0),
+        spot: item,
+        value: word(6),
+    };
+    assert_eq!(rt; out.as_slice(), [store].as_slice());
+    assert_eq!(rt; cache.pending().len(), 1);
+    let known = cache.known()?;
+    assert_eq!(rt; known.len(), 3);
+    assert_eq!(rt; known.as_slice().last().map(|known| known.1), Some(word(7)));
+    Ok(())
+}

@@ -1,5 +1,5 @@
 -- What the code of each form of operation gives.
-use Rattle.std.proofs.Common.{◌≡◌, ◌≢◌, ℕ, ◌+◌, ◌%◌, Bool, true, false, cond, List, [], ◌∷◌, ◌++◌, Some, refl, sym, ap, ◌∙◌, subst, arith, ℤ, pos}
+use Rattle.std.proofs.Common.{◌≡◌, ◌≢◌, ℕ, ◌+◌, ◌%◌, Bool, true, false, cond, List, [], ◌∷◌, ◌++◌, Option, Some, refl, sym, ap, ◌∙◌, subst, arith, ℤ, pos}
 use Rattle.std.specs.Prelude.{◌*ℤ◌, neg_ℤ}
 use Rattle.std.specs.Int.{w64, int_bit_not}
 use Rattle.trace_ops.specs.Words.{shift_of, truth}
@@ -13,7 +13,8 @@ use Rattle.x64_encode.specs.declared.instr.Instr.{Instr}
 use Rattle.x64_encode.specs.declared.instr.Instr.TheVariants.{MovReg, Alu, Imul, Not, Neg, ShiftCl, ShiftImm, Xchg, Set, Movzx}
 use Rattle.target_base.specs.declared.place.Place.{Place}
 use Rattle.target_base.specs.declared.place.Place.TheVariants.{In, Word}
-use Rattle.x64_machine.specs.Words.{wrap, unsigned, alu_result, alu_flags, writes, shifted, holds}
+use Rattle.x64_machine.specs.declared.state.Flags.{Flags}
+use Rattle.x64_machine.specs.Words.{wrap, unsigned, alu_result, alu_flags, imul_flags, writes, shifted, holds}
 use Rattle.x64_machine.specs.State.{State, one_if}
 use Rattle.asm_select.specs.declared.form.Arith.{Arith}
 use Rattle.asm_select.specs.declared.form.Arith.TheVariants.{By, Product}
@@ -21,11 +22,11 @@ use Rattle.asm_select.specs.declared.operand.Operand.{Operand}
 use Rattle.asm_select.specs.declared.operand.Operand.TheVariants.{At, Imm}
 use Rattle.asm_select.specs.Slots.{Slot, Put, puts}
 use Rattle.asm_select.specs.Valued.{r11, r15, value, MayHold, IsFit, AllBut}
-use Rattle.asm_select.specs.Chosen.{same_place, stands_at, reg_or, home_of, load_code, take_code, put_code, alu_code, product_code, arith_code, work_of, two_code, commuting_code, shift_code, truth_code, compare_code, test_code, clamp_code, one_code}
+use Rattle.asm_select.specs.Chosen.{same_place, stands_at, reg_or, home_of, load_code, take_code, put_code, alu_code, product_code, arith_code, work_of, two_code, commuting_code, shift_code, truth_code, truth_unless, compare_code, test_code, clamp_code, one_code}
 use Rattle.asm_select.specs.Reached.{Reach, read}
-use Rattle.asm_select.proofs.Steps.{then, chain, weaker, stay}
+use Rattle.asm_select.proofs.Steps.{then, chain, weaker, stay, puts-append}
 use Rattle.asm_select.proofs.Effects.{Only, Has, CanWrite, Covers, but, but_on, but_wider, covers_11, covers_15, covers_self, in_other, same_is, same_not, scratch, may_write}
-use Rattle.asm_select.proofs.Micro.{CanRead, takes, homes, load_takes, put_goes, computes, compares, alu_flags_alone, imul_goes, neg_goes, not_goes, shift_goes, shift_cl_goes, mov_goes, set_goes, movzx_goes, Swapped, xchg_goes, alu_writes}
+use Rattle.asm_select.proofs.Micro.{CanRead, takes, homes, load_takes, put_goes, put_keeps, computes, compares, alu_flags_alone, imul_goes, neg_goes, not_goes, shift_goes, shift_cl_goes, mov_goes, set_goes, movzx_goes, Swapped, xchg_goes, alu_writes}
 use Rattle.asm_select.proofs.Numbers.{low_byte, one_small}
 
 -- the result's place has the word, all but the scratch registers is as before, and the state is fit
@@ -80,7 +81,15 @@ still_11 : (b : Operand) (s t : State) → CanRead b → Only r11 s t → read t
 still_11 (At x) s t m o = o.others x m.not_r11
 still_11 (Imm v) s t m o = refl
 
--- a result comes to its place
+-- the same, with these flags
+abbrev pub GivesWith : Place → ℤ → Flags → State → State → Type 0
+GivesWith d v f s t = Gives d v s t × (t.flags ≡ f)
+
+-- a result comes to its place, and flags are kept
+places_with : (d : Place) (w : Reg) (v : ℤ) (f : Flags) (ys : List Slot) (s t : State) (q : ℕ) → MayHold d → value t (In w) ≡ v → t.flags ≡ f → AllBut d s t → IsFit t → t.at ≡ 0x40000000 + q → Reach q (puts (put_code d w) ++ ys) t ys (GivesWith d v f s)
+places_with d w v fl ys s t q m e g b f at =
+    weaker q (puts (put_code d w) ++ ys) ys t (λ u (h, k). ((h.0 ∙ e, but_on d s t u b (but d d t u (covers_self d) h.1), h.2), k ∙ g)) (put_keeps q d w ys t f (may_write d m) at)
+
 places : (d : Place) (w : Reg) (v : ℤ) (ys : List Slot) (s t : State) (q : ℕ) → MayHold d → value t (In w) ≡ v → AllBut d s t → IsFit t → t.at ≡ 0x40000000 + q → Reach q (puts (put_code d w) ++ ys) t ys (Gives d v s)
 places d w v ys s t q m e b f at =
     weaker q (puts (put_code d w) ++ ys) ys t (λ u h. (h.0 ∙ e, but_on d s t u b (but d d t u (covers_self d) h.1), h.2)) (put_goes q d w ys t f (may_write d m) at)
@@ -91,29 +100,34 @@ abbrev pub arith_result : Arith → ℤ → ℤ → ℤ
 arith_result (By op) a b = alu_result op a b
 arith_result Product a b = wrap (a *ℤ b)
 
+abbrev pub arith_flags : Arith → ℤ → ℤ → Flags
+arith_flags (By op) a b = alu_flags op a b
+arith_flags Product a b = imul_flags a b
+
 abbrev pub IsArith : Arith → Type 0
 IsArith (By op) = writes op ≡ true
 IsArith Product = Unit {0}
 
 abbrev Makes : Arith → Reg → ℤ → State → State → Type 0
-Makes m w b s t = (value t (In w) ≡ arith_result m (value s (In w)) b) × AllBut (In w) s t × IsFit t
+Makes m w b s t = (value t (In w) ≡ arith_result m (value s (In w)) b) × AllBut (In w) s t × IsFit t × (t.flags ≡ arith_flags m (value s (In w)) b)
 
 products : (p : ℕ) (w : Reg) (b : Operand) (ys : List Slot) (s : State) → CanRead b → IsFit s → CanWrite (In w) → In w ≢ r15 → s.at ≡ 0x40000000 + p → Reach p (puts (product_code w b) ++ ys) s ys (Makes Product w (read s b) s)
 products p w b ys s m f c ne at =
     let h = home_of 15 b in
     chain p (take_code h b) (Imul w h ∷ []) ys s (homes p 15 b (Put (Imul w h) ∷ ys) s m f write_15 at) (λ t q et ht.
     let same : value t (In w) ≡ value s (In w) = ht.1.others (In w) ne in
-    weaker q (Put (Imul w h) ∷ ys) ys t (λ u g. (
+    weaker q (Put (Imul w h) ∷ ys) ys t (λ u (g, fl). (
       g.0 ∙ ap (λ (x : ℤ). wrap (x *ℤ value t (In h))) same ∙ ap (λ (x : ℤ). wrap (value s (In w) *ℤ x)) ht.0,
       but_on (In w) s t u (but (In w) r15 s t (covers_15 (In w)) ht.1) (but (In w) (In w) t u (covers_self (In w)) g.1),
       g.2,
+      fl ∙ ap (λ (x : ℤ). imul_flags x (value t (In h))) same ∙ ap (λ (x : ℤ). imul_flags (value s (In w)) x) ht.0,
     )) (imul_goes q w h ys t ht.2 c et))
 
 ariths : (p : ℕ) (m : Arith) (w : Reg) (b : Operand) (ys : List Slot) (s : State) → IsArith m → CanRead b → IsFit s → CanWrite (In w) → In w ≢ r15 → s.at ≡ 0x40000000 + p → Reach p (puts (arith_code m w b) ++ ys) s ys (Makes m w (read s b) s)
 ariths p (By op) w b ys s e m f c ne at = computes p op w b ys s e m f c ne at
 ariths p Product w b ys s e m f c ne at = products p w b ys s m f c ne at
 
-pub two_gives : (p : ℕ) (m : Arith) (d : Place) (a b : Operand) (ys : List Slot) (s : State) → IsArith m → MayHold d → CanRead a → CanRead b → IsFit s → s.at ≡ 0x40000000 + p → Reach p (puts (two_code m d a b) ++ ys) s ys (Gives d (arith_result m (read s a) (read s b)) s)
+pub two_gives : (p : ℕ) (m : Arith) (d : Place) (a b : Operand) (ys : List Slot) (s : State) → IsArith m → MayHold d → CanRead a → CanRead b → IsFit s → s.at ≡ 0x40000000 + p → Reach p (puts (two_code m d a b) ++ ys) s ys (GivesWith d (arith_result m (read s a) (read s b)) (arith_flags m (read s a) (read s b)) s)
 two_gives p m d a b ys s e md ra rb f at =
     let w = work_of d b in
     let ok = work_works d b md in
@@ -121,16 +135,30 @@ two_gives p m d a b ys s e md ra rb f at =
     let zs = put_code d w in
     chain p (take_code w a) (xs ++ zs) ys s (takes p w a (puts (xs ++ zs) ++ ys) s ra f ok.write at) (λ t q et ht.
     chain q xs zs ys t (ariths q m w b (puts zs ++ ys) t e rb ht.2 ok.write ok.not_r15 et) (λ u q2 eu hu.
-    places d w (arith_result m (read s a) (read s b)) ys s u q2 md
+    places_with d w (arith_result m (read s a) (read s b)) (arith_flags m (read s a) (read s b)) ys s u q2 md
     (hu.0 ∙ ap (λ (x : ℤ). arith_result m x (read t b)) ht.0 ∙ ap (arith_result m (read s a)) (still d b s t rb ht.1))
+    (hu.3 ∙ ap (λ (x : ℤ). arith_flags m x (read t b)) ht.0 ∙ ap (arith_flags m (read s a)) (still d b s t rb ht.1))
     (but_on d s t u (but d (In w) s t ok.covers ht.1) (but_wider d (In w) t u ok.covers hu.1))
     hu.2 eu))
 
-pub commuting_gives : (p : ℕ) (m : Arith) (d : Place) (a b : Operand) (ys : List Slot) (s : State) → IsArith m → ((x y : ℤ) → arith_result m x y ≡ arith_result m y x) → MayHold d → CanRead a → CanRead b → IsFit s → s.at ≡ 0x40000000 + p → Reach p (puts (commuting_code m d a b) ++ ys) s ys (Gives d (arith_result m (read s a) (read s b)) s)
-commuting_gives p m d a b ys s e swap md ra rb f at =
-    elim (stands_at d b) as (λ x. Reach p (puts (cond x (two_code m d b a) (two_code m d a b)) ++ ys) s ys (Gives d (arith_result m (read s a) (read s b)) s)) [
-      | true ↦ weaker p (puts (two_code m d b a) ++ ys) ys s (λ t h. (h.0 ∙ swap (read s b) (read s a), h.1, h.2)) (two_gives p m d b a ys s e md rb ra f at)
-      | false ↦ two_gives p m d a b ys s e md ra rb f at
+-- the place has the word, and OF is this
+abbrev pub GivesOver : Place → ℤ → Option Bool → State → State → Type 0
+GivesOver d v o s t = Gives d v s t × (t.flags.of ≡ o)
+
+pub two_over : (p : ℕ) (m : Arith) (d : Place) (a b : Operand) (ys : List Slot) (s : State) → IsArith m → MayHold d → CanRead a → CanRead b → IsFit s → s.at ≡ 0x40000000 + p → Reach p (puts (two_code m d a b) ++ ys) s ys (GivesOver d (arith_result m (read s a) (read s b)) (arith_flags m (read s a) (read s b)).of s)
+two_over p m d a b ys s e md ra rb f at =
+    weaker p (puts (two_code m d a b) ++ ys) ys s (λ t h. (h.0, ap (λ (x : Flags). x.of) h.1)) (two_gives p m d a b ys s e md ra rb f at)
+
+-- the order of the operands doesn't matter
+pub record Swaps (m : Arith) : Type 0 where
+  pub result : (x y : ℤ) → arith_result m x y ≡ arith_result m y x
+  pub over : (x y : ℤ) → (arith_flags m x y).of ≡ (arith_flags m y x).of
+
+pub commuting_over : (p : ℕ) (m : Arith) (d : Place) (a b : Operand) (ys : List Slot) (s : State) → IsArith m → Swaps m → MayHold d → CanRead a → CanRead b → IsFit s → s.at ≡ 0x40000000 + p → Reach p (puts (commuting_code m d a b) ++ ys) s ys (GivesOver d (arith_result m (read s a) (read s b)) (arith_flags m (read s a) (read s b)).of s)
+commuting_over p m d a b ys s e swap md ra rb f at =
+    elim (stands_at d b) as (λ x. Reach p (puts (cond x (two_code m d b a) (two_code m d a b)) ++ ys) s ys (GivesOver d (arith_result m (read s a) (read s b)) (arith_flags m (read s a) (read s b)).of s)) [
+      | true ↦ weaker p (puts (two_code m d b a) ++ ys) ys s (λ t (h, o). ((h.0 ∙ swap.result (read s b) (read s a), h.1, h.2), o ∙ swap.over (read s b) (read s a))) (two_over p m d b a ys s e md rb ra f at)
+      | false ↦ two_over p m d a b ys s e md ra rb f at
     ]
 
 -- ---- shifts
@@ -208,43 +236,62 @@ number_of : (b : Bool) → pos (one_if b) ≡ truth b
 number_of true = refl
 number_of false = refl
 
-truths : (p : ℕ) (test : Cc) (d : Place) (b : Bool) (ys : List Slot) (s t : State) → MayHold d → AllBut d s t → IsFit t → holds test t.flags ≡ Some b → t.at ≡ 0x40000000 + p → Reach p (puts (truth_code test d) ++ ys) t ys (Gives d (truth b) s)
+truths : (p : ℕ) (test : Cc) (d : Place) (b : Bool) (ys : List Slot) (s t : State) → MayHold d → AllBut d s t → IsFit t → holds test t.flags ≡ Some b → t.at ≡ 0x40000000 + p → Reach p (puts (truth_code test d) ++ ys) t ys (λ v. Gives d (truth b) s v × (holds test v.flags ≡ Some b))
 truths p test d b ys s t md kept f h at =
     let w = reg_or 11 d in
     let ok = own_works d md in
     let zs = put_code d w in
     let l1 = Put (Movzx w w) ∷ (puts zs ++ ys) in
-    then p (Put (Set test w) ∷ l1) l1 ys t (set_goes p test w b l1 t f ok.write h at) (λ u q eu hu.
-    then q l1 (puts zs ++ ys) ys u (movzx_goes q w w (puts zs ++ ys) u hu.2 ok.write eu) (λ v q2 ev hv.
-    places d w (truth b) ys s v q2 md
+    then p (Put (Set test w) ∷ l1) l1 ys t (set_goes p test w b l1 t f ok.write h at) (λ u q eu (hu, ku).
+    then q l1 (puts zs ++ ys) ys u (movzx_goes q w w (puts zs ++ ys) u hu.2 ok.write eu) (λ v q2 ev (hv, kv).
+    weaker q2 (puts zs ++ ys) ys v (λ x (g, k). (g, ap (holds test) k ∙ h))
+    (places_with d w (truth b) t.flags ys s v q2 md
     (hv.0 ∙ ap (λ (z : ℤ). pos (unsigned z % 256)) hu.0 ∙ low_byte (one_if b) (value t (In w)) (one_small b) (f.words (In w)) ∙ number_of b)
+    (kv ∙ ku)
     (but_on d s u v (but_on d s t u kept (but d (In w) t u ok.covers hu.1)) (but d (In w) u v ok.covers hv.1))
-    hv.2 ev))
+    hv.2 ev)))
 
 home_not_15 : (a : Operand) → CanRead a → In (home_of 11 a) ≢ r15
 home_not_15 (At (In r)) m = m.not_r15
 home_not_15 (At (Word k)) m = not_15
 home_not_15 (Imm v) m = not_15
 
-pub compare_gives : (p : ℕ) (test : Cc) (d : Place) (a b : Operand) (x : Bool) (ys : List Slot) (s : State) → MayHold d → CanRead a → CanRead b → IsFit s → holds test (alu_flags alu.Cmp (read s a) (read s b)) ≡ Some x → s.at ≡ 0x40000000 + p → Reach p (puts (compare_code test d a b) ++ ys) s ys (Gives d (truth x) s)
-compare_gives p test d a b x ys s md ra rb f h at =
+-- only scratch registers and flags are changed, and the flags tell whether this holds
+abbrev pub Tells : Cc → Bool → State → State → Type 0
+Tells cond x s t = AllBut r11 s t × IsFit t × (holds cond t.flags ≡ Some x)
+
+pub compare_tells : (p : ℕ) (test : Cc) (a b : Operand) (x : Bool) (ys : List Slot) (s : State) → CanRead a → CanRead b → IsFit s → holds test (alu_flags alu.Cmp (read s a) (read s b)) ≡ Some x → s.at ≡ 0x40000000 + p → Reach p (puts (compare_code a b) ++ ys) s ys (Tells test x s)
+compare_tells p test a b x ys s ra rb f h at =
     let w = home_of 11 a in
     let xs = alu_code alu.Cmp w b in
-    let zs = truth_code test d in
-    chain p (take_code w a) (xs ++ zs) ys s (homes p 11 a (puts (xs ++ zs) ++ ys) s ra f write_11 at) (λ t q et ht.
-    chain q xs zs ys t (compares q alu.Cmp w b (puts zs ++ ys) t refl rb ht.2 (home_not_15 a ra) et) (λ u q2 eu hu.
-    let flags : holds test u.flags ≡ Some x = ap (holds test) (hu.0 ∙ ap (λ (y : ℤ). alu_flags alu.Cmp y (read t b)) ht.0 ∙ ap (λ (y : ℤ). alu_flags alu.Cmp (read s a) y) (still_11 b s t rb ht.1)) ∙ h in
-    truths q2 test d x ys s u md (but_on d s t u (but d r11 s t (covers_11 d) ht.1) (but_wider d r15 t u (covers_15 d) hu.1)) hu.2 flags eu))
+    chain p (take_code w a) xs ys s (homes p 11 a (puts xs ++ ys) s ra f write_11 at) (λ t q et ht.
+    weaker q (puts xs ++ ys) ys t (λ u hu. (
+      but_on r11 s t u (but r11 r11 s t (covers_11 r11) ht.1) (but_wider r11 r15 t u (covers_15 r11) hu.1),
+      hu.2,
+      ap (holds test) (hu.0 ∙ ap (λ (y : ℤ). alu_flags alu.Cmp y (read t b)) ht.0 ∙ ap (λ (y : ℤ). alu_flags alu.Cmp (read s a) y) (still_11 b s t rb ht.1)) ∙ h,
+    )) (compares q alu.Cmp w b ys t refl rb ht.2 (home_not_15 a ra) et))
 
-pub test_gives : (p : ℕ) (test : Cc) (d : Place) (a : Operand) (x : Bool) (ys : List Slot) (s : State) → MayHold d → CanRead a → IsFit s → holds test (alu_flags alu.Test (read s a) (read s a)) ≡ Some x → s.at ≡ 0x40000000 + p → Reach p (puts (test_code test d a) ++ ys) s ys (Gives d (truth x) s)
-test_gives p test d a x ys s md ra f h at =
+pub test_tells : (p : ℕ) (test : Cc) (a : Operand) (x : Bool) (ys : List Slot) (s : State) → CanRead a → IsFit s → holds test (alu_flags alu.Test (read s a) (read s a)) ≡ Some x → s.at ≡ 0x40000000 + p → Reach p (puts (test_code a) ++ ys) s ys (Tells test x s)
+test_tells p test a x ys s ra f h at =
     let w = home_of 11 a in
-    let zs = truth_code test d in
-    let l1 = Put (Alu alu.Test w w) ∷ (puts zs ++ ys) in
-    chain p (take_code w a) (Alu alu.Test w w ∷ zs) ys s (homes p 11 a l1 s ra f write_11 at) (λ t q et ht.
-    then q l1 (puts zs ++ ys) ys t (alu_flags_alone q alu.Test w w (puts zs ++ ys) t refl ht.2 et) (λ u q2 eu hu.
-    let flags : holds test u.flags ≡ Some x = ap (holds test) (hu.0 ∙ ap (λ (y : ℤ). alu_flags alu.Test y y) ht.0) ∙ h in
-    truths q2 test d x ys s u md (but_on d s t u (but d r11 s t (covers_11 d) ht.1) (but_wider d r15 t u (covers_15 d) hu.2)) hu.3 flags eu))
+    chain p (take_code w a) (Alu alu.Test w w ∷ []) ys s (homes p 11 a (Put (Alu alu.Test w w) ∷ ys) s ra f write_11 at) (λ t q et ht.
+    weaker q (Put (Alu alu.Test w w) ∷ ys) ys t (λ u hu. (
+      but_on r11 s t u (but r11 r11 s t (covers_11 r11) ht.1) (but_wider r11 r15 t u (covers_15 r11) hu.2),
+      hu.3,
+      ap (holds test) (hu.0 ∙ ap (λ (y : ℤ). alu_flags alu.Test y y) ht.0) ∙ h,
+    )) (alu_flags_alone q alu.Test w w ys t refl ht.2 et))
+
+-- the flags tell whether this holds, and where it is asked for, it is at the place as well
+abbrev pub Truth : Bool → Cc → Place → Bool → State → State → Type 0
+Truth true cond d x s t = Tells cond x s t
+Truth false cond d x s t = Gives d (truth x) s t × (holds cond t.flags ≡ Some x)
+
+pub truths_unless : (lone : Bool) (p : ℕ) (test : Cc) (xs : List Instr) (d : Place) (x : Bool) (ys : List Slot) (s : State) → MayHold d → ((zs : List Slot) → Reach p (puts xs ++ zs) s zs (Tells test x s)) → Reach p (puts (xs ++ truth_unless lone test d) ++ ys) s ys (Truth lone test d x s)
+truths_unless true p test xs d x ys s md go =
+    subst (λ (l : List Slot). Reach p l s ys (Tells test x s)) (sym (puts-append xs [] ys)) (go ys)
+truths_unless false p test xs d x ys s md go =
+    chain p xs (truth_code test d) ys s (go (puts (truth_code test d) ++ ys)) (λ t q et ht.
+    truths q test d x ys s t md (but_wider d r11 s t (covers_11 d) ht.0) ht.1 ht.2 et)
 
 -- ---- one operand
 
@@ -302,7 +349,7 @@ clamp_gives p d a ys s md ra f at =
     then q2 l2 l3 rest t2 (not_goes q2 c l3 t2 h2.2 write_15 e2) (λ t3 q3 e3 h3.
     let first : value t3 (In w) ≡ read s a = h3.1.others (In w) ok.not_r15 ∙ h2.1.others (In w) ok.not_r15 ∙ h1.1.others (In w) ok.not_r15 ∙ e in
     let mask : value t3 r15 ≡ int_bit_not w64 (shifted shift.Sar (read s a) 63) = h3.0 ∙ ap (int_bit_not w64) (h2.0 ∙ ap (λ (z : ℤ). shifted shift.Sar z 63) (h1.0 ∙ e)) in
-    weaker q3 l3 rest t3 (λ u h. (
+    weaker q3 l3 rest t3 (λ u (h, fl). (
       h.0 ∙ ap (λ (z : ℤ). alu_result alu.And z (value t3 r15)) first ∙ ap (alu_result alu.And (read s a)) mask,
       but_on (In w) t t3 u (but_on (In w) t t2 t3 (but_on (In w) t t1 t2 (but (In w) r15 t t1 (covers_15 (In w)) h1.1) (but (In w) r15 t1 t2 (covers_15 (In w)) h2.1)) (but (In w) r15 t2 t3 (covers_15 (In w)) h3.1)) (but (In w) (In w) t3 u (covers_self (In w)) h.1),
       h.2,

@@ -1,12 +1,12 @@
 -- What changes when a register or a frame word is written.
 use Rattle.std.proofs.Common.{◌≡◌, ◌≢◌, ℕ, ◌+◌, ◌-◌, ◌*◌, ◌/◌, ◌%◌, ◌<◌, true, false, List, length, Some, refl, sym, ap, ◌∙◌, subst, arith, ℤ, pos}
-use Rattle.std.specs.Prelude.{◌==◌, FitsSigned, slice_set, slice_index_or, ◌+ℤ◌}
+use Rattle.std.specs.Prelude.{◌==◌, FitsSigned, slice_set, slice_index_or, ◌+ℤ◌, ◌-ℤ◌}
 use Rattle.std.specs.Int.{w64}
 use Rattle.std.proofs.lemmas.List.{get_or-set_same, get_or-set_other, length-set}
 use Rattle.std.proofs.lemmas.Option.{slice_get-get_or}
 use Rattle.std.proofs.lemmas.Bool.{eqb-true, eq-eqb}
 use Rattle.std.proofs.lemmas.Bool.Decides.{nat_tests}
-use Rattle.std.proofs.lemmas.Int.{int_wrap_fits}
+use Rattle.std.proofs.lemmas.Int.{ints, int_wrap_fits}
 use Rattle.trace_ops.specs.Words.{IsWord}
 use Rattle.guard_exit.specs.Codes.{register, frame_mem}
 use Rattle.target_base.specs.declared.reg.Reg.{Reg}
@@ -118,7 +118,7 @@ same_not p q e f =
     cc
 
 pub may_write : (p : Place) → MayHold p → CanWrite p
-may_write p m = record { there = m.there; not_rsp = m.not_rsp; not_rbp = m.not_rbp; not_top = m.not_top }
+may_write p m = record { there = m.there; not_rsp = m.not_rsp; not_rbp = m.not_rbp; not_top = m.not_stack 1048575 (omega arith) }
 
 pub scratch : (n : ℕ) → n < 16 → n ≢ 4 → n ≢ 5 → CanWrite (In (register n))
 scratch n lt n4 n5 = record {
@@ -206,7 +206,8 @@ word_has s t j v f r a l k c word fit =
 pub frame_address : (s : State) (k : ℕ) → IsFit s → k < 1048576 → address s (frame_mem k) ≡ 0x20000000 + 8 * k
 frame_address s k f lt =
     let fits : FitsSigned w64 (pos (536870912 + 8 * k)) = record { sfits = omega arith } in
-    ap (λ (z : ℤ). unsigned (wrap (z +ℤ pos (8 * k)))) f.base ∙ ap unsigned (int_wrap_fits w64 (pos (536870912 + 8 * k)) fits)
+    let e : pos 0x20000080 +ℤ (pos (8 * k) -ℤ pos 128) ≡ pos (536870912 + 8 * k) = omega (arith, ints) in
+    ap (λ (z : ℤ). unsigned (wrap (z +ℤ (pos (8 * k) -ℤ pos 128)))) f.base ∙ ap (λ (z : ℤ). unsigned (wrap z)) e ∙ ap unsigned (int_wrap_fits w64 (pos (536870912 + 8 * k)) fits)
 
 high : (k : ℕ) → in_arena (0x20000000 + 8 * k) ≡ false
 high k = grind (arith, nat_tests)

@@ -1,223 +1,252 @@
 -- The code of a piece does what the piece does.
-use Rattle.std.proofs.Common.{◌≡◌, ◌≢◌, ◌⊎◌, ℕ, suc, ◌+◌, true, false, cond, List, [], ◌∷◌, ◌++◌, append_assoc, map, Option, Some, None, refl, sym, ap, ◌∙◌, subst, inl, inr, arith, ℤ, pos}
-use Rattle.std.specs.Prelude.{nat_eq}
-use Rattle.std.proofs.lemmas.Bool.{eqb-true, eqb-false}
+use Rattle.std.proofs.Common.{◌≡◌, ◌≤◌, false, ℕ, suc, ◌+◌, List, [], ◌∷◌, ◌++◌, append_assoc, length, Option, Some, None, IsTrue, refl, sym, ap, ◌∙◌, subst, inl, inr, arith}
+use Rattle.std.specs.List.{All}
 use Rattle.trace_ops.specs.declared.code.OpCode.{OpCode}
+use Rattle.trace_ops.specs.declared.code.OpCode.TheVariants as code
 use Rattle.trace_ops.specs.declared.trace.BoxId.{BoxId}
-use Rattle.trace_ops.specs.declared.trace.Descr.{Descr}
 use Rattle.trace_ops.specs.declared.trace.Arg.{Arg}
-use Rattle.trace_ops.specs.declared.trace.Arg.TheVariants.{Of, Const, Null, Class, Func, Ptr}
 use Rattle.trace_ops.specs.declared.piece.OptOp.{OptOp}
 use Rattle.trace_ops.specs.declared.piece.OptOp.TheVariants as opt
-use Rattle.trace_ops.specs.Words.{IsWord}
-use Rattle.trace_ops.specs.Folds.{unary, binary, word_of}
-use Rattle.opt_meaning.specs.StraightBoxes.{Env, value_of, with_box}
-use Rattle.opt_meaning.specs.StraightStep.{Stepped, Goes, Finishes, Outside, given, finished_with, opt_step, go_on, opt_run}
+use Rattle.trace_ops.specs.declared.piece.PieceId.{PieceId}
+use Rattle.trace_ops.specs.declared.piece.Snapshot.{Snapshot}
+use Rattle.trace_ops.specs.Parts.{boxes_of, parts_of}
+use Rattle.trace_ops.specs.Pieces.{finished}
+use Rattle.trace_meaning.specs.declared.value.Value.{Value}
+use Rattle.trace_meaning.specs.Boxes.{value_in, arg_value}
+use Rattle.trace_meaning.specs.Legs.{Turn, On, Off, Fails, Jumps, Finishes, Waits, Misfits, Wrong, go_on, drive}
+use Rattle.trace_meaning.specs.Legs as legs
+use Rattle.opt_meaning.specs.Step.{Opt, opt_step, opt_values, opt_leave, resume_args}
+use Rattle.arena_objects.specs.Layout.{address_of}
+use Rattle.arena_objects.specs.Standing.{Stands}
 use Rattle.x64_machine.specs.State.{State}
+use Rattle.asm_select.specs.declared.told.Told.{Told}
 use Rattle.asm_select.specs.Slots.{Slot, Go, puts}
-use Rattle.asm_select.specs.Valued.{value, MayHold, IsFit}
-use Rattle.asm_select.specs.Chosen.{Where, operand_of, plain_code, all_code}
-use Rattle.asm_select.specs.Reached.{Reach, IsUse, IsUsedIn, IsNamed, Uses, Holds, IsApart, IsWordArg, HasWords, read, SameArena, Steps, read_shown, Ended, Simulates}
-use Rattle.asm_select.proofs.Steps.{stay, join, weaker}
-use Rattle.asm_select.proofs.Effects.{same_arena}
-use Rattle.asm_select.proofs.Micro.{CanRead}
-use Rattle.asm_select.proofs.Arms.{Gives}
-use Rattle.asm_select.proofs.Operations.{unaries, binaries}
+use Rattle.asm_select.specs.Valued.{value, MayHold}
+use Rattle.asm_select.specs.Chosen.{Setting, access_form, word_code, access_code, is_host_call, call_if, result_place, plain_code, jump_code}
+use Rattle.asm_select.specs.declared.form.Access.{Access}
+use Rattle.asm_select.specs.declared.form.Access.TheVariants as access
+use Rattle.x64_encode.specs.declared.instr.Instr.{Instr}
+use Rattle.target_base.specs.declared.place.Place.{Place}
+use Rattle.x64_encode.specs.Form.{spelling}
+use Rattle.trace_ops.specs.declared.trace.Descr.{Descr}
+use Rattle.trace_ops.specs.declared.trace.Arg.TheVariants.{Class}
+use Rattle.trace_ops.specs.declared.table.Table.{Table}
+use Rattle.asm_select.specs.Reached.{IsUsedIn, IsApart, Holds, HasWords, IsWordArg, PrebuiltsStand, SameArena, word_in}
+use Rattle.asm_select.specs.Ended as ended
+use Rattle.asm_select.specs.Ended.{IsGuardHere, IsPlainHere, IsPlain, IsAccess, TableServes, has_unary, has_binary, reads_of, writes_of, headers_of, loads_of, stores_of, Counts, AreParts, IsLeft, AreValued, ArgsStand, AreMoved, IsHere, CodeFollows}
+use Rattle.asm_select.proofs.Followed.{ComesTo, FollowsBy, Follows}
+use Rattle.asm_select.proofs.Steps.{stay, weaker, puts-append}
+use Rattle.asm_select.proofs.Naming.{named_left}
+use Rattle.asm_select.proofs.Values.{arg_is, first_value}
+use Rattle.asm_select.proofs.Plains.{unary_follows, binary_follows}
+use Rattle.asm_select.proofs.Accessed.{access_follows, counts_as, loads_by}
+use Rattle.asm_select.proofs.Classed.{class_follows, nonnull_class_follows}
+use Rattle.asm_select.proofs.Guards.{is_class_guard, guard_follows, boxes_stand, boxes_are_parts, part_named, first_is}
+use Rattle.asm_select.proofs.Jumps.{jump_does}
+use Rattle.asm_select.proofs.Parts.{args_are_parts}
+use Rattle.asm_select.proofs.Relying.{Relied}
 
--- ---- operands
+same_same : (s : State) → SameArena s s
+same_same s = record { arena = refl; loads = refl; stores = refl }
 
-zero_word : IsWord (pos 0)
-zero_word = record { sfits = omega arith }
+-- ---- exits
 
-pub arg_reads : (at : Where) (a : Arg) → ((b : ℕ) → MayHold (at b)) → IsWordArg a → CanRead (operand_of at a)
-arg_reads at (Of b) m w = m b.number
-arg_reads at (Const v) m w = w
-arg_reads at Null m w = zero_word
-arg_reads at (Class n) m w = zero_word
-arg_reads at (Func n) m w = zero_word
-arg_reads at (Ptr n) m w = zero_word
-
-arg_is : (at : Where) (env : Env) (s : State) (a : Arg) → ((b : ℕ) → IsUse a b → value s (at b) ≡ env b) → read s (operand_of at a) ≡ value_of env a
-arg_is at env s (Of b) h = h b.number refl
-arg_is at env s (Const v) h = refl
-arg_is at env s Null h = refl
-arg_is at env s (Class n) h = refl
-arg_is at env s (Func n) h = refl
-arg_is at env s (Ptr n) h = refl
-
--- ---- a result is in its place
-
-made : (at : Where) (r : BoxId) (v : ℤ) (ops : List OptOp) (env : Env) (s t : State) → ((c : ℕ) → MayHold (at c)) → ((c : ℕ) → Uses ops c → c ≢ r.number → at c ≢ at r.number) → ((c : ℕ) → c ≢ r.number → Uses ops c → value s (at c) ≡ env c) → Gives (at r.number) v s t → Holds at ops (with_box r.number v env) t
-made at r v ops env s t m apart kept g = record {
-  fit = g.2;
-  boxes = λ c u. (elim (nat_eq c r.number) as (λ x. nat_eq c r.number ≡ x → value t (at c) ≡ cond x v (env c)) [
-    | true ↦ λ h. ap (λ (n : ℕ). value t (at n)) (eqb-true c r.number h) ∙ g.0
-    | false ↦ λ h. (let ne : c ≢ r.number = eqb-false c r.number h in g.1.others (at c) (m c).not_r11 (m c).not_r15 (apart c u ne) ∙ kept c ne u)
-  ]
-      refl);
-}
-
-goes_is : (x y : Env) → Goes x ≡ Goes y → x ≡ y
-goes_is x y e = ap env_of e
-  where
-    env_of : Stepped → Env
-    env_of (Goes env) = env
-    env_of (Finishes v) = x
-    env_of Outside = x
-
--- an operation of words that goes on gives one
-word_given : (env after : Env) (r : BoxId) (w : Option ℤ) → given env (Some r) w ≡ Goes after → (v : ℤ) × (w ≡ Some v) × (with_box r.number v env ≡ after)
-word_given env after r (Some v) e = (v, refl, goes_is (with_box r.number v env) after e)
-word_given env after r None e = absurd (outside e)
-  where
-    test : Stepped → Type 0
-    test (Goes x) = ⊥
-    test (Finishes v) = ⊥
-    test Outside = Unit {0}
-
-    outside : Outside ≡ Goes after → ⊥
-    outside h = subst test h tt
-
-outside_not : (after : Env) → Outside ≡ Goes after → ⊥
-outside_not after h = subst test h tt
-  where
-    test : Stepped → Type 0
-    test (Goes x) = ⊥
-    test (Finishes v) = ⊥
-    test Outside = Unit {0}
-
-finishes_not : (v : Option ℤ) (after : Env) → Finishes v ≡ Goes after → ⊥
-finishes_not v after h = subst test h tt
-  where
-    test : Stepped → Type 0
-    test (Goes x) = ⊥
-    test (Finishes w) = Unit {0}
-    test Outside = ⊥
-
--- what is left behind an operation with a result
-leads : (at : Where) (operation : OpCode) (r : BoxId) (args : List Arg) (d : Descr) (v : ℤ) (ops : List OptOp) (env after : Env) (s t : State) → ((b : ℕ) → MayHold (at b)) → IsApart at (opt.Plain operation (Some r) args d) ops → with_box r.number v env ≡ after → Holds at (opt.Plain operation (Some r) args d ∷ ops) env s → Gives (at r.number) v s t → Holds at ops after t × SameArena s t
-leads at operation r args d v ops env after s t m apart e h g = (
-  subst (λ (x : Env). Holds at ops x t) e (made at r v ops env s t m
-      (λ c u ne. apart r.number c (inl refl) u ne)
-      (λ c ne u. h.boxes c (inr (λ n. not_named r c ne n, u)))
-      g),
-  same_arena (at r.number) s t g.1,
+exit_follows : (c : Setting) (k : ℕ) (told : Told) (n : ℕ) (snap : Snapshot) (ops : List OptOp) (env : Opt) (more : List Slot) (p : ℕ) (s : State) (o : Option (List Value)) → opt_values env (resume_args snap) ≡ o → Holds c told (opt.Exit n snap ∷ ops) env s → s.at ≡ 0x40000000 + p → Follows c k told (opt.Exit n snap) ops more p s (opt_leave (Fails n) env o)
+exit_follows c k told n snap ops env more p s None e h at = tt
+exit_follows c k told n snap ops env more p s (Some vs) e h at = (
+  Go k,
+  more,
+  stay p (Go k ∷ more) s (λ t. IsLeft c k (opt.Exit n snap) (Go k) (Fails n vs env.world) t × SameArena s t) at (
+    record {
+      taken = refl;
+      fit = h.fit;
+      arena = h.arena;
+      prebuilts = h.prebuilts;
+      parts = boxes_are_parts env (parts_of snap) vs h.values e;
+      with = (refl, boxes_stand c.at env s (parts_of snap) vs (λ q x u g. h.boxes q x (inl (inr (named_left (boxes_of snap) [] q (part_named snap q u)))) g) e);
+    },
+    same_same s,
+  ),
 )
-  where
-    not_named : (b : BoxId) (c : ℕ) → c ≢ b.number → IsNamed (b ∷ []) c → ⊥
-    not_named b c ne (inl q) = ne (sym q)
-    not_named b c ne (inr q) = q
 
-shape : (xs : List Slot) (more : List Slot) → (xs ++ []) ++ more ≡ xs ++ more
-shape xs more = append_assoc xs [] more
+-- ---- finishes
 
-plain_steps : (at : Where) (operation : OpCode) (r : BoxId) (args : List Arg) (d : Descr) (v : ℤ) (ops : List OptOp) (env after : Env) (more : List Slot) (p : ℕ) (s : State) → ((b : ℕ) → MayHold (at b)) → IsApart at (opt.Plain operation (Some r) args d) ops → HasWords (opt.Plain operation (Some r) args d) → word_of operation (map (value_of env) args) ≡ Some v → with_box r.number v env ≡ after → Holds at (opt.Plain operation (Some r) args d ∷ ops) env s → s.at ≡ 0x40000000 + p → Reach p (puts (plain_code at operation (Some r) args) ++ more) s more (λ t. Holds at ops after t × SameArena s t)
-plain_steps at operation r [] d v ops env after more p s m apart w g e h q = absurd (cc)
-plain_steps at operation r (a ∷ []) d v ops env after more p s m apart w g e h q =
-    let va = arg_is at env s a (λ b u. h.boxes b (inl (inl (inl u)))) in
-    weaker p _ more s (λ t x. leads at operation r (a ∷ []) d v ops env after s t m apart e h x)
-    (unaries operation p (at r.number) (operand_of at a) v more s (ap (unary operation) va ∙ g) (m r.number) (arg_reads at a m (w 0 a (omega arith))) h.fit q)
-plain_steps at operation r (a ∷ b ∷ []) d v ops env after more p s m apart w g e h q =
-    let va = arg_is at env s a (λ c u. h.boxes c (inl (inl (inl u)))) in
-    let vb = arg_is at env s b (λ c u. h.boxes c (inl (inl (inr (inl u))))) in
-    weaker p _ more s (λ t x. leads at operation r (a ∷ b ∷ []) d v ops env after s t m apart e h x)
-    (binaries operation p (at r.number) (operand_of at a) (operand_of at b) v more s (ap (λ (y : ℤ). binary operation y (read s (operand_of at b))) va ∙ ap (binary operation (value_of env a)) vb ∙ g) (m r.number) (arg_reads at a m (w 0 a (omega arith))) (arg_reads at b m (w 1 b (omega arith))) h.fit q)
-plain_steps at operation r (a ∷ b ∷ c ∷ more_args) d v ops env after more p s m apart w g e h q = absurd (cc)
+args_stand : (c : Setting) (env : Opt) (s : State) (args : List Arg) (vs : List Value) → PrebuiltsStand c.table env.world.objects → All (IsWordArg c.table) args → AreValued args → ((b : BoxId) (y : Value) → IsUsedIn args b → value_in env.boxes b ≡ Some y → value s (c.at b.number) ≡ word_in env y) → opt_values env args ≡ Some vs → ArgsStand c (address_of env.world.objects) s args vs
+args_stand c env s [] [] pre w va found e = tt
+args_stand c env s [] (x ∷ xs) pre w va found e = absurd (cc)
+args_stand c env s (a ∷ args) vs pre w va found e =
+    let z = first_is (arg_value (value_in env.boxes) a) (opt_values env args) vs (sym (first_value (arg_value (value_in env.boxes)) a args va.0) ∙ e) in
+    subst (λ (xs : List Value). ArgsStand c (address_of env.world.objects) s (a ∷ args) xs) z.4
+    (arg_is c env s a z.0 pre (w 0 a (omega arith)) (λ q y k i. found q y (inl k) i) z.2, args_stand c env s args z.1 pre (λ k x lt. w (suc k) x (omega (arith, lt))) va.1 (λ q y k i. found q y (inr k) i) z.3)
 
-pub steps : Steps
-steps at k (opt.Plain operation (Some r) args d) ops env after more p s m apart w g h e =
-    let f = word_given env after r (word_of operation (map (value_of env) args)) g in
-    let xs = puts (plain_code at operation (Some r) args) in
-    subst (λ (l : List Slot). Reach p l s more (λ t. Holds at ops after t × SameArena s t)) (sym (shape xs more))
-    (plain_steps at operation r args d f.0 ops env after more p s m apart w f.1 f.2 h e)
-steps at k (opt.Plain operation None args d) ops env after more p s m apart w g h e = absurd (outside_not after g)
-steps at k (opt.Guard operation args guard snap) ops env after more p s m apart w g h e = absurd (outside_not after g)
-steps at k (opt.Exit guard snap) ops env after more p s m apart w g h e = absurd (outside_not after g)
-steps at k (opt.Jump to args) ops env after more p s m apart w g h e = absurd (outside_not after g)
-steps at k (opt.Finish v) ops env after more p s m apart w g h e = absurd (finishes_not (finished_with env v) after g)
+finish_follows : (c : Setting) (k : ℕ) (told : Told) (a : Option Arg) (ops : List OptOp) (env : Opt) (more : List Slot) (p : ℕ) (s : State) (o : Option (List Value)) → opt_values env (finished a) ≡ o → HasWords c.table (opt.Finish a) → AreValued (finished a) → Holds c told (opt.Finish a ∷ ops) env s → s.at ≡ 0x40000000 + p → Follows c k told (opt.Finish a) ops more p s (opt_leave Finishes env o)
+finish_follows c k told a ops env more p s None e w va h at = tt
+finish_follows c k told a ops env more p s (Some vs) e w va h at = (
+  Go k,
+  more,
+  stay p (Go k ∷ more) s (λ t. IsLeft c k (opt.Finish a) (Go k) (Finishes vs env.world) t × SameArena s t) at (
+    record {
+      taken = refl;
+      fit = h.fit;
+      arena = h.arena;
+      prebuilts = h.prebuilts;
+      parts = args_are_parts c env (finished a) vs h.prebuilts w va h.values e;
+      with = args_stand c env s (finished a) vs h.prebuilts w va (λ b y u g. h.boxes b y (inl (inl u)) g) e;
+    },
+    same_same s,
+  ),
+)
 
-outside_ends : (v : Option ℤ) → Outside ≡ Finishes v → ⊥
-outside_ends v h = subst test h tt
-  where
-    test : Stepped → Type 0
-    test (Goes x) = ⊥
-    test (Finishes w) = ⊥
-    test Outside = Unit {0}
+-- ---- jumps
 
-goes_not : (env : Env) (v : Option ℤ) → Goes env ≡ Finishes v → ⊥
-goes_not env v h = subst test h tt
-  where
-    test : Stepped → Type 0
-    test (Goes x) = Unit {0}
-    test (Finishes w) = ⊥
-    test Outside = ⊥
+jump_follows : (c : Setting) (k : ℕ) (told : Told) (to : PieceId) (args : List Arg) (ops : List OptOp) (env : Opt) (more : List Slot) (p : ℕ) (s : State) (o : Option (List Value)) → opt_values env args ≡ o → ((b : ℕ) → MayHold (c.at b)) → HasWords c.table (opt.Jump to args) → AreMoved c args → AreValued args → Holds c told (opt.Jump to args ∷ ops) env s → s.at ≡ 0x40000000 + p → Follows c k told (opt.Jump to args) ops more p s (opt_leave Jumps env o)
+jump_follows c k told to args ops env more p s None e m w mv va h at = tt
+jump_follows c k told to args ops env more p s (Some vs) e m w mv va h at =
+    let xs = puts (jump_code c args) in
+    subst (λ (l : List Slot). ComesTo c k (opt.Jump to args) l p s (Jumps vs env.world)) (sym (append_assoc xs (Go k ∷ []) more)) (
+      Go k,
+      more,
+      weaker p (xs ++ (Go k ∷ more)) (Go k ∷ more) s (λ t g. (
+        record {
+          taken = refl;
+          fit = g.1;
+          arena = subst (Stands c.table env.world.objects) (sym g.2.arena) h.arena;
+          prebuilts = h.prebuilts;
+          parts = args_are_parts c env args vs h.prebuilts w va h.values e;
+          with = g.0;
+        },
+        g.2,
+      )) (jump_does p c env args vs (Go k ∷ more) s m h.prebuilts w va mv (λ b y u g. h.boxes b y (inl (inl u)) g) e h.fit at),
+    )
 
-given_not : (env : Env) (r : Option BoxId) (w v : Option ℤ) → given env r w ≡ Finishes v → ⊥
-given_not env (Some r) (Some w) v h = goes_not (with_box r.number w env) v h
-given_not env (Some r) None v h = outside_ends v h
-given_not env None w v h = outside_ends v h
+-- ---- loads and stores
 
--- ---- a whole piece
+unary_counts : (operation : OpCode) → IsTrue (has_unary operation) → (reads_of operation ≡ 0) × (writes_of operation ≡ 0)
+unary_counts code.SameAsR h = (refl, refl)
+unary_counts code.IntIsZero h = (refl, refl)
+unary_counts code.IntIsTrue h = (refl, refl)
+unary_counts code.IntNeg h = (refl, refl)
+unary_counts code.IntInvert h = (refl, refl)
+unary_counts code.IntForceGeZero h = (refl, refl)
+unary_counts code.SameAsI h = (refl, refl)
+unary_counts _ h = absurd (cc)
 
-goes_or_ends : (st : Stepped) (next : Env → Stepped) (v : Option ℤ) → go_on st next ≡ Finishes v → ((after : Env) × (st ≡ Goes after) × (next after ≡ Finishes v)) ⊎ (st ≡ Finishes v)
-goes_or_ends (Goes env) next v h = inl (env, refl, h)
-goes_or_ends (Finishes w) next v h = inr h
-goes_or_ends Outside next v h = inr h
+binary_counts : (operation : OpCode) → IsTrue (has_binary operation) → (reads_of operation ≡ 0) × (writes_of operation ≡ 0)
+binary_counts code.IntAdd h = (refl, refl)
+binary_counts code.IntSub h = (refl, refl)
+binary_counts code.IntMul h = (refl, refl)
+binary_counts code.IntAnd h = (refl, refl)
+binary_counts code.IntOr h = (refl, refl)
+binary_counts code.IntXor h = (refl, refl)
+binary_counts code.IntLshift h = (refl, refl)
+binary_counts code.IntRshift h = (refl, refl)
+binary_counts code.UintRshift h = (refl, refl)
+binary_counts code.IntLt h = (refl, refl)
+binary_counts code.IntLe h = (refl, refl)
+binary_counts code.IntEq h = (refl, refl)
+binary_counts code.IntNe h = (refl, refl)
+binary_counts code.IntGt h = (refl, refl)
+binary_counts code.IntGe h = (refl, refl)
+binary_counts code.UintLt h = (refl, refl)
+binary_counts code.UintLe h = (refl, refl)
+binary_counts code.UintGt h = (refl, refl)
+binary_counts code.UintGe h = (refl, refl)
+binary_counts code.PtrEq h = (refl, refl)
+binary_counts code.PtrNe h = (refl, refl)
+binary_counts code.IntAddOvf h = (refl, refl)
+binary_counts code.IntSubOvf h = (refl, refl)
+binary_counts code.IntMulOvf h = (refl, refl)
+binary_counts _ h = absurd (cc)
 
--- the head of the operations is operation k, and the others begin with k + 1
-later : (at : Where) (k : ℕ) (op : OptOp) (ops : List OptOp) (p q : ℕ) (s t : State) (v : Option ℤ) {R : State → Type 0} → (f : Reach p (all_code at k (op ∷ ops)) s (all_code at (k + 1) ops) R) → ((x : State) → R x → SameArena s x) → Ended at (k + 1) ops f.q f.t v → Ended at k (op ∷ ops) p s v
-later at k op ops p q s t v f same e = record {
-  j = suc e.j;
-  shown = e.shown;
-  finish = e.finish;
-  rest = e.rest;
-  reach =
-      let n : k + 1 + e.j ≡ k + suc e.j = omega arith in
-      subst (λ (m : ℕ). Reach p (all_code at k (op ∷ ops)) s (Go m ∷ e.rest) (λ x. IsFit x × SameArena s x × (read_shown at x e.shown ≡ v))) n
-      (weaker p (all_code at k (op ∷ ops)) (Go (k + 1 + e.j) ∷ e.rest) s (λ x h. (h.0, onward (same f.t f.holds) h.1, h.2)) (join p (all_code at k (op ∷ ops)) (all_code at (k + 1) ops) (Go (k + 1 + e.j) ∷ e.rest) s f e.reach));
-}
-  where
-    onward : {a b c : State} → SameArena a b → SameArena b c → SameArena a c
-    onward x y = record { arena = y.arena ∙ x.arena; loads = y.loads ∙ x.loads; stores = y.stores ∙ x.stores }
+guard_counts : (operation : OpCode) (args : List Arg) (vs : Option (List Value)) → is_class_guard operation ≡ false → IsGuardHere operation args → headers_of operation vs ≡ 0
+guard_counts code.GuardTrue args vs o h = refl
+guard_counts code.GuardFalse args vs o h = refl
+guard_counts code.GuardValue args vs o h = refl
+guard_counts code.GuardNonnull args vs o h = refl
+guard_counts code.GuardIsnull args vs o h = refl
+guard_counts code.GuardNoOverflow args vs o h = refl
+guard_counts code.GuardOverflow args vs o h = refl
+guard_counts code.GuardClass args vs o h = absurd (cc)
+guard_counts code.GuardNonnullClass args vs o h = absurd (cc)
+guard_counts _ args vs o h = absurd h
 
-abbrev shown_args : Option Arg → List Arg
-shown_args (Some a) = a ∷ []
-shown_args None = []
+-- an operation that calls no host
+no_call : (form : Access) (r : Option BoxId) (args : List Arg) (d : Descr) (t : Table) (place : Place) → IsAccess t form r args d → call_if (is_host_call form) place ≡ []
+no_call access.Structure r args d t place h = absurd h
+no_call access.Array r args d t place h = absurd h
+no_call access.Call r args d t place h = absurd h
+no_call _ r args d t place h = refl
 
-shown_is : (at : Where) (env : Env) (s : State) (v : Option Arg) → ((b : ℕ) → IsUsedIn (shown_args v) b → value s (at b) ≡ env b) → read_shown at s v ≡ finished_with env v
-shown_is at env s (Some a) h = ap Some (arg_is at env s a (λ b u. h b (inl u)))
-shown_is at env s None h = refl
+counted : (n m : ℕ) (s t : State) → n ≡ 0 → m ≡ 0 → SameArena s t → Counts n m s t
+counted n m s t a b g = record { loads_more = omega (arith, a, g.loads); stores_more = omega (arith, b, g.stores) }
 
-finishes_is : (x y : Option ℤ) → Finishes x ≡ Finishes y → x ≡ y
-finishes_is x y e = cc
+comes_counted : (n m : ℕ) (c : Setting) (k : ℕ) (op : OptOp) (xs : List Slot) (p : ℕ) (s : State) (l : legs.Leave) → n ≡ 0 → m ≡ 0 → ComesTo c k op xs p s l → ended.ComesTo (Counts n m s) c k op xs p s l
+comes_counted n m c k op xs p s l a b g = (g.0, g.1, weaker p xs (g.0 ∷ g.1) s (λ t h. (h.0, counted n m s t a b h.1)) g.2)
 
-ends_here : (at : Where) (k : ℕ) (op : OptOp) (ops : List OptOp) (env : Env) (v : Option ℤ) (p : ℕ) (s : State) → opt_step env op ≡ Finishes v → Holds at (op ∷ ops) env s → s.at ≡ 0x40000000 + p → Ended at k (op ∷ ops) p s v
-ends_here at k (opt.Finish a) ops env v p s g h e = record {
-  j = 0;
-  shown = a;
-  finish = refl;
-  rest = all_code at (k + 1) ops;
-  reach =
-      let n : k ≡ k + 0 = omega arith in
-      subst (λ (m : ℕ). Reach p (Go k ∷ all_code at (k + 1) ops) s (Go m ∷ all_code at (k + 1) ops) (λ x. IsFit x × SameArena s x × (read_shown at x a ≡ v))) n
-      (stay p (Go k ∷ all_code at (k + 1) ops) s (λ x. IsFit x × SameArena s x × (read_shown at x a ≡ v)) e (h.fit, record { arena = refl; loads = refl; stores = refl }, shown_is at env s a (λ b u. h.boxes b (inl (inl u))) ∙ finishes_is (finished_with env a) v g));
-}
-ends_here at k (opt.Plain operation (Some r) args d) ops env v p s g h e = absurd (given_not env (Some r) (word_of operation (map (value_of env) args)) v g)
-ends_here at k (opt.Plain operation None args d) ops env v p s g h e = absurd (given_not env None (word_of operation (map (value_of env) args)) v g)
-ends_here at k (opt.Guard operation args guard snap) ops env v p s g h e = absurd (outside_ends v g)
-ends_here at k (opt.Exit guard snap) ops env v p s g h e = absurd (outside_ends v g)
-ends_here at k (opt.Jump to args) ops env v p s g h e = absurd (outside_ends v g)
+follows_counted : (n m : ℕ) (c : Setting) (k : ℕ) (op : OptOp) (ops : List OptOp) (xs more : List Slot) (p : ℕ) (s : State) (turn : Turn Opt) → n ≡ 0 → m ≡ 0 → FollowsBy c k op ops xs more p s turn → ended.FollowsBy (Counts n m s) c k op ops xs more p s turn
+follows_counted n m c k op ops xs more p s (On after) a b g = weaker p xs more s (λ t h. (h.0, counted n m s t a b h.1)) g
+follows_counted n m c k op ops xs more p s (Off (Fails i vs w)) a b g = comes_counted n m c k op xs p s (Fails i vs w) a b g
+follows_counted n m c k op ops xs more p s (Off (Jumps vs w)) a b g = comes_counted n m c k op xs p s (Jumps vs w) a b g
+follows_counted n m c k op ops xs more p s (Off (Finishes vs w)) a b g = comes_counted n m c k op xs p s (Finishes vs w) a b g
+follows_counted n m c k op ops xs more p s (Off (Waits w)) a b g = g
+follows_counted n m c k op ops xs more p s (Off (Misfits w)) a b g = g
+follows_counted n m c k op ops xs more p s (Off (Wrong w)) a b g = tt
 
--- where the others come to the finish, the whole does
-whole : (at : Where) (k : ℕ) (op : OptOp) (ops : List OptOp) (env : Env) (v : Option ℤ) (p : ℕ) (s : State) → ((b : ℕ) → MayHold (at b)) → IsApart at op ops → HasWords op → Holds at (op ∷ ops) env s → s.at ≡ 0x40000000 + p → ((after : Env) (q : ℕ) (t : State) → opt_run after ops ≡ Finishes v → Holds at ops after t → t.at ≡ 0x40000000 + q → Ended at (k + 1) ops q t v) → ((after : Env) × (opt_step env op ≡ Goes after) × (opt_run after ops ≡ Finishes v)) ⊎ (opt_step env op ≡ Finishes v) → Ended at k (op ∷ ops) p s v
-whole at k op ops env v p s m apart w h e rest (inl (after, one, on)) =
-    let f = steps at k op ops env after (all_code at (k + 1) ops) p s m apart w one h e in
-    later at k op ops p f.q s f.t v f (λ x r. r.1) (rest after f.q f.t on f.holds.0 f.at)
-whole at k op ops env v p s m apart w h e rest (inr ends) = ends_here at k op ops env v p s ends h e
+-- ---- each operation
 
-pub simulates : Simulates
-simulates at k [] env v p s m apart words g h e = absurd (goes_not env v g)
-simulates at k (op ∷ ops) env v p s m apart words g h e =
-    whole at k op ops env v p s m apart.0 (words 0 op (omega arith)) h e
-    (λ after q t on held come. simulates at (k + 1) ops after v q t m apart.1 (λ n x lt. words (suc n) x (omega arith)) on held come)
-    (goes_or_ends (opt_step env op) (λ after. opt_run after ops) v g)
+-- an operation that touches no arena
+no_arena : (c : Setting) (k : ℕ) (op : OptOp) (ops : List OptOp) (n m : ℕ) (xs more : List Slot) (p : ℕ) (s : State) (turn : Turn Opt) → n ≡ 0 → m ≡ 0 → FollowsBy c k op ops xs more p s turn → ended.FollowsBy (Counts n m s) c k op ops xs more p s turn
+no_arena c k op ops n m xs more p s turn a b g = follows_counted n m c k op ops xs more p s turn a b g
+
+word_follows : Relied → (c : Setting) (k : ℕ) (told : Told) (operation : OpCode) (r : Option BoxId) (args : List Arg) (d : Descr) (ops : List OptOp) (env : Opt) (more : List Slot) (p : ℕ) (s : State) → ((b : ℕ) → MayHold (c.at b)) → IsApart c.at (opt.Plain operation r args d) ops → HasWords c.table (opt.Plain operation r args d) → IsPlainHere operation r args → AreValued args → Holds c told (opt.Plain operation r args d ∷ ops) env s → s.at ≡ 0x40000000 + p → ended.FollowsBy (Counts (reads_of operation) (writes_of operation) s) c k (opt.Plain operation r args d) ops (puts (word_code c operation r args ops) ++ more) more p s (opt_step c.table (opt.Plain operation r args d) env)
+word_follows relied c k told operation (Some r) (a ∷ []) d ops env more p s m apart w here va h at =
+    let z = unary_counts operation here in
+    no_arena c k (opt.Plain operation (Some r) (a ∷ []) d) ops (reads_of operation) (writes_of operation) _ more p s _ z.0 z.1 (unary_follows c k told operation r a d ops env more p s m apart (w 0 a (omega arith)) here va.0 h at)
+word_follows relied c k told operation (Some r) (a ∷ b ∷ []) d ops env more p s m apart w here va h at =
+    let z = binary_counts operation here in
+    no_arena c k (opt.Plain operation (Some r) (a ∷ b ∷ []) d) ops (reads_of operation) (writes_of operation) _ more p s _ z.0 z.1 (binary_follows c k told operation r a b d ops env more p s relied m apart (w 0 a (omega arith)) (w 1 b (omega arith)) here va.0 va.1.0 h at)
+word_follows relied c k told operation r args d ops env more p s m apart w here va h at = absurd here
+
+-- by what an operation is
+abbrev PlainBy : Setting → ℕ → OpCode → Option BoxId → List Arg → Descr → List OptOp → Opt → List Slot → ℕ → State → Option Access → Type 0
+PlainBy c k operation r args d ops env more p s o =
+    ended.FollowsBy (Counts (reads_of operation) (writes_of operation) s) c k (opt.Plain operation r args d) ops (puts (plain_code c k operation o r args d ops) ++ more) more p s (opt_step c.table (opt.Plain operation r args d) env)
+
+plain_follows : Relied → (c : Setting) (k : ℕ) (told : Told) (operation : OpCode) (r : Option BoxId) (args : List Arg) (d : Descr) (ops : List OptOp) (env : Opt) (more : List Slot) (p : ℕ) (s : State) → TableServes c.table → ((b : ℕ) → MayHold (c.at b)) → IsApart c.at (opt.Plain operation r args d) ops → HasWords c.table (opt.Plain operation r args d) → (o : Option Access) → access_form operation ≡ o → IsPlain c.table operation o r args d → AreValued args → Holds c told (opt.Plain operation r args d ∷ ops) env s → s.at ≡ 0x40000000 + p → PlainBy c k operation r args d ops env more p s o
+plain_follows relied c k told operation r args d ops env more p s table m apart w None e here va h at = word_follows relied c k told operation r args d ops env more p s m apart w here va h at
+plain_follows relied c k told operation r args d ops env more p s table m apart w (Some form) e here va h at =
+    let xs = access_code c k form r args d in
+    let g = access_follows relied c k told operation form r args d ops env more p s table m apart w e here va h at in
+    let z = counts_as operation form e in
+    let turn = opt_step c.table (opt.Plain operation r args d) env in
+    subst (λ (l : List Slot). ended.FollowsBy (Counts (reads_of operation) (writes_of operation) s) c k (opt.Plain operation r args d) ops l more p s turn) (sym (ap (λ (y : List Instr). puts (xs ++ y) ++ more) (no_call form r args d c.table (result_place c r) here) ∙ puts-append xs [] more))
+    (subst (λ (n : ℕ). ended.FollowsBy (Counts n (writes_of operation) s) c k (opt.Plain operation r args d) ops (puts xs ++ more) more p s turn) (sym z.0)
+    (subst (λ (n : ℕ). ended.FollowsBy (Counts (loads_by form) n s) c k (opt.Plain operation r args d) ops (puts xs ++ more) more p s turn) (sym z.1) g))
+
+guard_by : Relied → (c : Setting) (k : ℕ) (told : Told) (operation : OpCode) (args : List Arg) (n : ℕ) (snap : Snapshot) (ops : List OptOp) (env : Opt) (more : List Slot) (p : ℕ) (s : State) → ((b : ℕ) → MayHold (c.at b)) → HasWords c.table (opt.Guard operation args n snap) → is_class_guard operation ≡ false → IsHere c told (opt.Guard operation args n snap) → Holds c told (opt.Guard operation args n snap ∷ ops) env s → s.at ≡ 0x40000000 + p → ended.Follows (Counts (loads_of (opt.Guard operation args n snap) env) 0 s) c k told (opt.Guard operation args n snap) ops more p s (opt_step c.table (opt.Guard operation args n snap) env)
+guard_by relied c k told operation args n snap ops env more p s m w other here h at =
+    no_arena c k (opt.Guard operation args n snap) ops (headers_of operation (opt_values env args)) 0 _ more p s _ (guard_counts operation args (opt_values env args) other here.0) refl (guard_follows c k told operation args n snap ops env more p s relied m w other here.0 here.1 here.2 h at)
+
+abbrev pub Most : Type 0
+Most = (i : Instr) → length (spelling i) ≤ 16
+
+guard_code_follows : Most → Relied → (c : Setting) (k : ℕ) (told : Told) (operation : OpCode) (args : List Arg) (n : ℕ) (snap : Snapshot) (ops : List OptOp) (env : Opt) (more : List Slot) (p : ℕ) (s : State) → TableServes c.table → ((b : ℕ) → MayHold (c.at b)) → HasWords c.table (opt.Guard operation args n snap) → IsHere c told (opt.Guard operation args n snap) → Holds c told (opt.Guard operation args n snap ∷ ops) env s → s.at ≡ 0x40000000 + p → ended.Follows (Counts (loads_of (opt.Guard operation args n snap) env) 0 s) c k told (opt.Guard operation args n snap) ops more p s (opt_step c.table (opt.Guard operation args n snap) env)
+guard_code_follows most relied c k told code.GuardClass (a ∷ Class size ∷ []) n snap ops env more p s table m w here h at =
+    class_follows relied c k told a size n snap ops env more p s table m w here.0 h at
+guard_code_follows most relied c k told code.GuardNonnullClass (a ∷ Class size ∷ []) n snap ops env more p s table m w here h at =
+    nonnull_class_follows relied most c k told a size n snap ops env more p s table m w here.0 h at
+guard_code_follows most relied c k told code.GuardClass args n snap ops env more p s table m w here h at = absurd here.0
+guard_code_follows most relied c k told code.GuardNonnullClass args n snap ops env more p s table m w here h at = absurd here.0
+guard_code_follows most relied c k told operation args n snap ops env more p s table m w here h at = guard_by relied c k told operation args n snap ops env more p s m w refl here h at
+
+pub code_follows : Most → Relied → CodeFollows
+code_follows most relied c k told (opt.Plain operation r args d) ops env more p s table m apart w here h at =
+    plain_follows relied c k told operation r args d ops env more p s table m apart w (access_form operation) refl here.0 here.1 h at
+code_follows most relied c k told (opt.Guard operation args n snap) ops env more p s table m apart w here h at =
+    guard_code_follows most relied c k told operation args n snap ops env more p s table m w here h at
+code_follows most relied c k told (opt.Exit n snap) ops env more p s table m apart w here h at =
+    no_arena c k (opt.Exit n snap) ops 0 0 _ more p s _ refl refl (exit_follows c k told n snap ops env more p s (opt_values env (resume_args snap)) refl h at)
+code_follows most relied c k told (opt.Jump to args) ops env more p s table m apart w here h at =
+    no_arena c k (opt.Jump to args) ops 0 0 _ more p s _ refl refl (jump_follows c k told to args ops env more p s (opt_values env args) refl m w here.0 here.1 h at)
+code_follows most relied c k told (opt.Finish a) ops env more p s table m apart w here h at =
+    no_arena c k (opt.Finish a) ops 0 0 _ more p s _ refl refl (finish_follows c k told a ops env more p s (opt_values env (finished a)) refl w here h at)

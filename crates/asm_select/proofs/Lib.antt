@@ -1,13 +1,38 @@
-mod Steps
-mod Effects
-mod Micro
-mod Numbers
-mod Arms
-mod Flagging
-mod Operations
-mod Follows
-mod Exiting
-mod Appends
-mod Rows
-mod Standing
-mod Lengths
+pub mod Relying
+pub mod Same
+pub mod Numbers
+pub mod Steps
+pub mod Effects
+pub mod Micro
+pub mod Naming
+pub mod Allotted
+pub mod Arms
+pub mod Flagging
+pub mod Standing
+pub mod Operations
+pub mod Values
+pub mod Results
+pub mod Tables
+pub mod Followed
+pub mod Plains
+pub mod Guards
+pub mod Memory
+pub mod Loads
+pub mod Performing
+pub mod Accessing
+pub mod Classing
+pub mod Calls
+pub mod Jumps
+pub mod Parts
+pub mod Accessed
+pub mod Asking
+pub mod Classed
+pub mod Follows
+pub mod Travels
+pub mod Lengths
+pub mod Rows
+pub mod Exiting
+pub mod Suiting
+pub mod Handed
+pub mod Started
+pub mod Examples

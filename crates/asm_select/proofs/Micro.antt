@@ -10,14 +10,15 @@ use Rattle.target_base.specs.declared.reg.Reg.{Reg}
 use Rattle.x64_encode.specs.declared.instr.AluOp.{AluOp}
 use Rattle.x64_encode.specs.declared.instr.ShiftOp.{ShiftOp}
 use Rattle.x64_encode.specs.declared.instr.Cc.{Cc}
-use Rattle.x64_encode.specs.declared.instr.Instr.TheVariants.{MovReg, Load, Store, MovImm, Alu, AluImm, Imul, Not, Neg, ShiftCl, ShiftImm, Xchg, Set, Movzx}
+use Rattle.x64_encode.specs.declared.instr.Instr.{Instr}
+use Rattle.x64_encode.specs.declared.instr.Instr.TheVariants.{MovReg, Load, Store, StoreImm, MovImm, Alu, AluImm, Imul, Not, Neg, ShiftCl, ShiftImm, Xchg, Set, Movzx}
 use Rattle.target_base.specs.declared.place.Place.{Place}
 use Rattle.target_base.specs.declared.place.Place.TheVariants.{In, Word}
 use Rattle.x64_encode.specs.Fields.{fits_bits}
 use Rattle.target_base.specs.Arena.{with_arena_word}
 use Rattle.x64_machine.specs.declared.state.Flags.{Flags}
 use Rattle.x64_machine.specs.Words.{wrap, unsigned, undefined, alu_result, alu_flags, writes, imul_flags, neg_flags, shifted, holds}
-use Rattle.x64_machine.specs.State.{State, reg, with_reg, with_flags, address, in_arena, one_if, went, loaded, stored, set_where, with_low_byte}
+use Rattle.x64_machine.specs.State.{State, act, word_at, reg, with_reg, with_flags, address, in_arena, one_if, went, loaded, stored, set_where, with_low_byte}
 use Rattle.asm_select.specs.declared.operand.Operand.{Operand}
 use Rattle.asm_select.specs.declared.operand.Operand.TheVariants.{At, Imm}
 use Rattle.asm_select.specs.Slots.{Slot, Put, puts}
@@ -43,12 +44,19 @@ pub read_fits : (s : State) (b : Operand) → CanRead b → IsFit s → IsWord (
 read_fits s (At p) c f = f.words p
 read_fits s (Imm v) c f = c
 
+-- a place has the word, all else is as before, flags too, and the state is fit
+abbrev pub Keeps : Place → ℤ → State → State → Type 0
+Keeps p v s t = Has p v s t × (t.flags ≡ s.flags)
+
 -- ---- a register is written
 
+pub mov_keeps : (p : ℕ) (w r : Reg) (ys : List Slot) (s : State) → IsFit s → CanWrite (In w) → s.at ≡ 0x40000000 + p → Reach p (Put (MovReg w r) ∷ ys) s ys (Keeps (In w) (value s (In r)) s)
+mov_keeps p w r ys s f c at =
+    one p (MovReg w r) ys s (with_reg w (reg s r) s) (Keeps (In w) (value s (In r)) s) at (λ next. refl)
+    (λ next. (reg_has s (moved next (with_reg w (reg s r) s)) w (reg s r) refl refl refl refl refl c (f.words (In r)) f, refl))
+
 pub mov_goes : (p : ℕ) (w r : Reg) (ys : List Slot) (s : State) → IsFit s → CanWrite (In w) → s.at ≡ 0x40000000 + p → Reach p (Put (MovReg w r) ∷ ys) s ys (Has (In w) (value s (In r)) s)
-mov_goes p w r ys s f c at =
-    one p (MovReg w r) ys s (with_reg w (reg s r) s) (Has (In w) (value s (In r)) s) at (λ next. refl)
-    (λ next. reg_has s (moved next (with_reg w (reg s r) s)) w (reg s r) refl refl refl refl refl c (f.words (In r)) f)
+mov_goes p w r ys s f c at = weaker p (Put (MovReg w r) ∷ ys) ys s (λ t h. h.0) (mov_keeps p w r ys s f c at)
 
 pub imm_goes : (p : ℕ) (w : Reg) (v : ℤ) (ys : List Slot) (s : State) → IsFit s → CanWrite (In w) → IsWord v → s.at ≡ 0x40000000 + p → Reach p (Put (MovImm w v) ∷ ys) s ys (Has (In w) v s)
 imm_goes p w v ys s f c word at =
@@ -102,11 +110,11 @@ homes p n (Imm v) ys s m f c e = imm_goes p (register n) v ys s f c m e
 
 -- ---- a register is brought to a place
 
-pub store_goes : (p k : ℕ) (w : Reg) (ys : List Slot) (s : State) → IsFit s → CanWrite (Word k) → s.at ≡ 0x40000000 + p → Reach p (Put (Store (frame_mem k) w) ∷ ys) s ys (Has (Word k) (value s (In w)) s)
-store_goes p k w ys s f c at =
+-- a word is written to a frame word
+store_word : (p k : ℕ) (i : Instr) (v : ℤ) (ys : List Slot) (s : State) → IsFit s → CanWrite (Word k) → IsWord v → ((next : ℕ) → act i next s ≡ stored (word_at s (address s (frame_mem k))) (address s (frame_mem k)) v s (went next)) → s.at ≡ 0x40000000 + p → Reach p (Put i ∷ ys) s ys (Keeps (Word k) v s)
+store_word p k i v ys s f c word acts at =
     let lt = c.there in
     let a = address s (frame_mem k) in
-    let v = reg s w in
     let low = frame_in s k f lt in
     let none : s.stores + one_if (in_arena a) ≡ s.stores = ap (λ (b : Bool). s.stores + one_if b) low ∙ omega arith in
     let place : (a - 0x20000000) / 8 ≡ k = ap (λ (n : ℕ). (n - 0x20000000) / 8) (frame_address s k f lt) ∙ grind arith in
@@ -117,23 +125,35 @@ store_goes p k w ys s f c at =
       frame = cond (in_arena a) s.frame (slice_set s.frame ((a - 0x20000000) / 8) v);
       stores = s.stores + one_if (in_arena a);
     } in
-    one p (Store (frame_mem k) w) ys s after (Has (Word k) (value s (In w)) s) at
-    (λ next. ap (λ (o : Option ℤ). stored o a v s (went next)) (frame_read s k f lt))
-    (λ next. word_has s (moved next after) k v frame refl arena refl none c (f.words (In w)) f)
+    one p i ys s after (Keeps (Word k) v s) at
+    (λ next. acts next ∙ ap (λ (o : Option ℤ). stored o a v s (went next)) (frame_read s k f lt))
+    (λ next. (word_has s (moved next after) k v frame refl arena refl none c word f, refl))
 
-pub put_goes : (p : ℕ) (d : Place) (w : Reg) (ys : List Slot) (s : State) → IsFit s → CanWrite d → s.at ≡ 0x40000000 + p → Reach p (puts (put_code d w) ++ ys) s ys (Has d (value s (In w)) s)
-put_goes p (In r) w ys s f c at =
-    elim (nat_eq r.0 w.0) as (λ b. nat_eq r.0 w.0 ≡ b → Reach p (puts (cond b [] (MovReg r w ∷ [])) ++ ys) s ys (Has (In r) (value s (In w)) s)) [
-      | true ↦ λ e. stay p ys s (Has (In r) (value s (In w)) s) at (sym (same_reg s r w (eqb-true r.0 w.0 e)), only_same (In r) s, f)
-      | false ↦ λ e. mov_goes p r w ys s f c at
+pub store_keeps : (p k : ℕ) (w : Reg) (ys : List Slot) (s : State) → IsFit s → CanWrite (Word k) → s.at ≡ 0x40000000 + p → Reach p (Put (Store (frame_mem k) w) ∷ ys) s ys (Keeps (Word k) (value s (In w)) s)
+store_keeps p k w ys s f c at = store_word p k (Store (frame_mem k) w) (reg s w) ys s f c (f.words (In w)) (λ next. refl) at
+
+pub store_goes : (p k : ℕ) (w : Reg) (ys : List Slot) (s : State) → IsFit s → CanWrite (Word k) → s.at ≡ 0x40000000 + p → Reach p (Put (Store (frame_mem k) w) ∷ ys) s ys (Has (Word k) (value s (In w)) s)
+store_goes p k w ys s f c at = weaker p (Put (Store (frame_mem k) w) ∷ ys) ys s (λ t h. h.0) (store_keeps p k w ys s f c at)
+
+pub store_imm_keeps : (p k : ℕ) (v : ℤ) (ys : List Slot) (s : State) → IsFit s → CanWrite (Word k) → IsWord v → s.at ≡ 0x40000000 + p → Reach p (Put (StoreImm (frame_mem k) v) ∷ ys) s ys (Keeps (Word k) v s)
+store_imm_keeps p k v ys s f c word at = store_word p k (StoreImm (frame_mem k) v) v ys s f c word (λ next. refl) at
+
+pub put_keeps : (p : ℕ) (d : Place) (w : Reg) (ys : List Slot) (s : State) → IsFit s → CanWrite d → s.at ≡ 0x40000000 + p → Reach p (puts (put_code d w) ++ ys) s ys (Keeps d (value s (In w)) s)
+put_keeps p (In r) w ys s f c at =
+    elim (nat_eq r.0 w.0) as (λ b. nat_eq r.0 w.0 ≡ b → Reach p (puts (cond b [] (MovReg r w ∷ [])) ++ ys) s ys (Keeps (In r) (value s (In w)) s)) [
+      | true ↦ λ e. stay p ys s (Keeps (In r) (value s (In w)) s) at ((sym (same_reg s r w (eqb-true r.0 w.0 e)), only_same (In r) s, f), refl)
+      | false ↦ λ e. mov_keeps p r w ys s f c at
     ]
     refl
-put_goes p (Word k) w ys s f c at = store_goes p k w ys s f c at
+put_keeps p (Word k) w ys s f c at = store_keeps p k w ys s f c at
+
+pub put_goes : (p : ℕ) (d : Place) (w : Reg) (ys : List Slot) (s : State) → IsFit s → CanWrite d → s.at ≡ 0x40000000 + p → Reach p (puts (put_code d w) ++ ys) s ys (Has d (value s (In w)) s)
+put_goes p d w ys s f c at = weaker p (puts (put_code d w) ++ ys) ys s (λ t h. h.0) (put_keeps p d w ys s f c at)
 
 -- ---- an operation of a register
 
 abbrev pub Computes : AluOp → Reg → ℤ → State → State → Type 0
-Computes op w b s t = (value t (In w) ≡ alu_result op (value s (In w)) b) × AllBut (In w) s t × IsFit t
+Computes op w b s t = (value t (In w) ≡ alu_result op (value s (In w)) b) × AllBut (In w) s t × IsFit t × (t.flags ≡ alu_flags op (value s (In w)) b)
 
 -- the flags are those of the operation, and nothing but r15 and r11 is changed
 abbrev pub Compares : AluOp → ℤ → ℤ → State → State → Type 0
@@ -153,21 +173,21 @@ flags_alone fl next s f = (refl, values, record { others = λ q x y z. values q;
     fits : (q : Place) → IsWord (value (moved next (with_flags fl s)) q)
     fits q = subst IsWord (sym (values q)) (f.words q)
 
-pub alu_writes : (p : ℕ) (op : AluOp) (w r : Reg) (ys : List Slot) (s : State) → writes op ≡ true → IsFit s → CanWrite (In w) → s.at ≡ 0x40000000 + p → Reach p (Put (Alu op w r) ∷ ys) s ys (Has (In w) (alu_result op (value s (In w)) (value s (In r))) s)
+pub alu_writes : (p : ℕ) (op : AluOp) (w r : Reg) (ys : List Slot) (s : State) → writes op ≡ true → IsFit s → CanWrite (In w) → s.at ≡ 0x40000000 + p → Reach p (Put (Alu op w r) ∷ ys) s ys (λ t. Has (In w) (alu_result op (value s (In w)) (value s (In r))) s t × (t.flags ≡ alu_flags op (value s (In w)) (value s (In r))))
 alu_writes p op w r ys s e f c at =
     let v = alu_result op (reg s w) (reg s r) in
     let fl = alu_flags op (reg s w) (reg s r) in
-    one p (Alu op w r) ys s (with_flags fl (with_reg w v s)) (Has (In w) v s) at
+    one p (Alu op w r) ys s (with_flags fl (with_reg w v s)) (λ t. Has (In w) v s t × (t.flags ≡ fl)) at
     (λ next. ap (λ (x : Bool). went next (with_flags fl (cond x (with_reg w v s) s))) e)
-    (λ next. reg_has s (moved next (with_flags fl (with_reg w v s))) w v refl refl refl refl refl c (result_fits op (reg s w) (reg s r) (f.words (In w)) (f.words (In r))) f)
+    (λ next. (reg_has s (moved next (with_flags fl (with_reg w v s))) w v refl refl refl refl refl c (result_fits op (reg s w) (reg s r) (f.words (In w)) (f.words (In r))) f, refl))
 
-imm_writes : (p : ℕ) (op : AluOp) (w : Reg) (b : ℤ) (ys : List Slot) (s : State) → writes op ≡ true → IsWord b → IsFit s → CanWrite (In w) → s.at ≡ 0x40000000 + p → Reach p (Put (AluImm op w b) ∷ ys) s ys (Has (In w) (alu_result op (value s (In w)) b) s)
+imm_writes : (p : ℕ) (op : AluOp) (w : Reg) (b : ℤ) (ys : List Slot) (s : State) → writes op ≡ true → IsWord b → IsFit s → CanWrite (In w) → s.at ≡ 0x40000000 + p → Reach p (Put (AluImm op w b) ∷ ys) s ys (λ t. Has (In w) (alu_result op (value s (In w)) b) s t × (t.flags ≡ alu_flags op (value s (In w)) b))
 imm_writes p op w b ys s e word f c at =
     let v = alu_result op (reg s w) b in
     let fl = alu_flags op (reg s w) b in
-    one p (AluImm op w b) ys s (with_flags fl (with_reg w v s)) (Has (In w) v s) at
+    one p (AluImm op w b) ys s (with_flags fl (with_reg w v s)) (λ t. Has (In w) v s t × (t.flags ≡ fl)) at
     (λ next. ap (λ (x : Bool). went next (with_flags fl (cond x (with_reg w v s) s))) e)
-    (λ next. reg_has s (moved next (with_flags fl (with_reg w v s))) w v refl refl refl refl refl c (result_fits op (reg s w) b (f.words (In w)) word) f)
+    (λ next. (reg_has s (moved next (with_flags fl (with_reg w v s))) w v refl refl refl refl refl c (result_fits op (reg s w) b (f.words (In w)) word) f, refl))
 
 pub alu_flags_alone : (p : ℕ) (op : AluOp) (w r : Reg) (ys : List Slot) (s : State) → writes op ≡ false → IsFit s → s.at ≡ 0x40000000 + p → Reach p (Put (Alu op w r) ∷ ys) s ys (Flagged (alu_flags op (value s (In w)) (value s (In r))) s)
 alu_flags_alone p op w r ys s e f at =
@@ -177,7 +197,7 @@ alu_flags_alone p op w r ys s e f at =
     (λ next. ap (λ (x : Bool). went next (with_flags fl (cond x (with_reg w v s) s))) e)
     (λ next. flags_alone fl next s f)
 
-imm_flags_alone : (p : ℕ) (op : AluOp) (w : Reg) (b : ℤ) (ys : List Slot) (s : State) → writes op ≡ false → IsFit s → s.at ≡ 0x40000000 + p → Reach p (Put (AluImm op w b) ∷ ys) s ys (Flagged (alu_flags op (value s (In w)) b) s)
+pub imm_flags_alone : (p : ℕ) (op : AluOp) (w : Reg) (b : ℤ) (ys : List Slot) (s : State) → writes op ≡ false → IsFit s → s.at ≡ 0x40000000 + p → Reach p (Put (AluImm op w b) ∷ ys) s ys (Flagged (alu_flags op (value s (In w)) b) s)
 imm_flags_alone p op w b ys s e f at =
     let v = alu_result op (reg s w) b in
     let fl = alu_flags op (reg s w) b in
@@ -193,10 +213,11 @@ by_home : (p : ℕ) (op : AluOp) (w h : Reg) (b : ℤ) (xs ys : List Slot) (s : 
 by_home p op w h b xs ys s e c ne first =
     then p xs (Put (Alu op w h) ∷ ys) ys s first (λ t q at ht.
     let same : value t (In w) ≡ value s (In w) = ht.1.others (In w) ne in
-    weaker q (Put (Alu op w h) ∷ ys) ys t (λ u g. (
+    weaker q (Put (Alu op w h) ∷ ys) ys t (λ u (g, fl). (
       g.0 ∙ ap (λ (x : ℤ). alu_result op x (value t (In h))) same ∙ ap (λ (x : ℤ). alu_result op (value s (In w)) x) ht.0,
       but_on (In w) s t u (but (In w) r15 s t (covers_15 (In w)) ht.1) (but (In w) (In w) t u (covers_self (In w)) g.1),
       g.2,
+      fl ∙ ap (λ (x : ℤ). alu_flags op x (value t (In h))) same ∙ ap (λ (x : ℤ). alu_flags op (value s (In w)) x) ht.0,
     )) (alu_writes q op w h ys t e ht.2 c at))
 
 scratch_15 : CanWrite r15
@@ -209,7 +230,7 @@ computes p op w (At x) ys s e m f c ne at =
     (by_home p op w h (value s x) _ ys s e c ne (homes p 15 (At x) (Put (Alu op w h) ∷ ys) s m f scratch_15 at))
 computes p op w (Imm v) ys s e m f c ne at =
     elim (fits_bits 31 v) as (λ b. Reach p (puts (cond b (AluImm op w v ∷ []) (MovImm (register 15) v ∷ Alu op w (register 15) ∷ [])) ++ ys) s ys (Computes op w v s)) [
-      | true ↦ weaker p (Put (AluImm op w v) ∷ ys) ys s (λ t h. (h.0, but (In w) (In w) s t (covers_self (In w)) h.1, h.2)) (imm_writes p op w v ys s e m f c at)
+      | true ↦ weaker p (Put (AluImm op w v) ∷ ys) ys s (λ t (h, fl). (h.0, but (In w) (In w) s t (covers_self (In w)) h.1, h.2, fl)) (imm_writes p op w v ys s e m f c at)
       | false ↦ by_home p op w (register 15) v _ ys s e c ne (imm_goes p (register 15) v (Put (Alu op w (register 15)) ∷ ys) s f scratch_15 m at)
     ]
 
@@ -237,12 +258,12 @@ compares p op w (Imm v) ys s e m f ne at =
 
 -- ---- other instructions of one register
 
-pub imul_goes : (p : ℕ) (w r : Reg) (ys : List Slot) (s : State) → IsFit s → CanWrite (In w) → s.at ≡ 0x40000000 + p → Reach p (Put (Imul w r) ∷ ys) s ys (Has (In w) (wrap (value s (In w) *ℤ value s (In r))) s)
+pub imul_goes : (p : ℕ) (w r : Reg) (ys : List Slot) (s : State) → IsFit s → CanWrite (In w) → s.at ≡ 0x40000000 + p → Reach p (Put (Imul w r) ∷ ys) s ys (λ t. Has (In w) (wrap (value s (In w) *ℤ value s (In r))) s t × (t.flags ≡ imul_flags (value s (In w)) (value s (In r))))
 imul_goes p w r ys s f c at =
     let v = wrap (reg s w *ℤ reg s r) in
     let x = with_flags (imul_flags (reg s w) (reg s r)) (with_reg w v s) in
-    one p (Imul w r) ys s x (Has (In w) v s) at (λ next. refl)
-    (λ next. reg_has s (moved next x) w v refl refl refl refl refl c (SFits-int_wrap w64 (reg s w *ℤ reg s r)) f)
+    one p (Imul w r) ys s x (λ t. Has (In w) v s t × (t.flags ≡ imul_flags (reg s w) (reg s r))) at (λ next. refl)
+    (λ next. (reg_has s (moved next x) w v refl refl refl refl refl c (SFits-int_wrap w64 (reg s w *ℤ reg s r)) f, refl))
 
 pub neg_goes : (p : ℕ) (w : Reg) (ys : List Slot) (s : State) → IsFit s → CanWrite (In w) → s.at ≡ 0x40000000 + p → Reach p (Put (Neg w) ∷ ys) s ys (Has (In w) (wrap (neg_ℤ (value s (In w)))) s)
 neg_goes p w ys s f c at =
@@ -272,17 +293,17 @@ shift_cl_goes p op w ys s f c at =
     one p (ShiftCl op w) ys s x (Has (In w) v s) at (λ next. refl)
     (λ next. reg_has s (moved next x) w v refl refl refl refl refl c (shifted_fits op (reg s w) n (f.words (In w))) f)
 
-pub set_goes : (p : ℕ) (cond : Cc) (w : Reg) (b : Bool) (ys : List Slot) (s : State) → IsFit s → CanWrite (In w) → holds cond s.flags ≡ Some b → s.at ≡ 0x40000000 + p → Reach p (Put (Set cond w) ∷ ys) s ys (Has (In w) (with_low_byte (one_if b) (value s (In w))) s)
+pub set_goes : (p : ℕ) (cond : Cc) (w : Reg) (b : Bool) (ys : List Slot) (s : State) → IsFit s → CanWrite (In w) → holds cond s.flags ≡ Some b → s.at ≡ 0x40000000 + p → Reach p (Put (Set cond w) ∷ ys) s ys (Keeps (In w) (with_low_byte (one_if b) (value s (In w))) s)
 set_goes p cond w b ys s f c h at =
     let v = with_low_byte (one_if b) (reg s w) in
-    one p (Set cond w) ys s (with_reg w v s) (Has (In w) v s) at (λ next. ap (λ (o : Option Bool). set_where o next w s) h)
-    (λ next. reg_has s (moved next (with_reg w v s)) w v refl refl refl refl refl c (low_byte_fits (one_if b) (reg s w) (one_small b) (f.words (In w))) f)
+    one p (Set cond w) ys s (with_reg w v s) (Keeps (In w) v s) at (λ next. ap (λ (o : Option Bool). set_where o next w s) h)
+    (λ next. (reg_has s (moved next (with_reg w v s)) w v refl refl refl refl refl c (low_byte_fits (one_if b) (reg s w) (one_small b) (f.words (In w))) f, refl))
 
-pub movzx_goes : (p : ℕ) (w r : Reg) (ys : List Slot) (s : State) → IsFit s → CanWrite (In w) → s.at ≡ 0x40000000 + p → Reach p (Put (Movzx w r) ∷ ys) s ys (Has (In w) (pos (unsigned (value s (In r)) % 256)) s)
+pub movzx_goes : (p : ℕ) (w r : Reg) (ys : List Slot) (s : State) → IsFit s → CanWrite (In w) → s.at ≡ 0x40000000 + p → Reach p (Put (Movzx w r) ∷ ys) s ys (Keeps (In w) (pos (unsigned (value s (In r)) % 256)) s)
 movzx_goes p w r ys s f c at =
     let v = pos (unsigned (reg s r) % 256) in
-    one p (Movzx w r) ys s (with_reg w v s) (Has (In w) v s) at (λ next. refl)
-    (λ next. reg_has s (moved next (with_reg w v s)) w v refl refl refl refl refl c (byte_fits (unsigned (reg s r))) f)
+    one p (Movzx w r) ys s (with_reg w v s) (Keeps (In w) v s) at (λ next. refl)
+    (λ next. (reg_has s (moved next (with_reg w v s)) w v refl refl refl refl refl c (byte_fits (unsigned (reg s r))) f, refl))
 
 -- two registers exchange their words
 pub record Swapped (a b : Reg) (s t : State) : Type 0 where

@@ -1,24 +1,41 @@
--- How a run leaves the code: by a finish's jump into the stub of its exit, and by the common exit.
-use Rattle.std.specs.Prelude.{◌≡◌, ℕ, ◌+◌, ◌^◌, ◌<◌, ◌≤◌, ◌⊎◌, ℤ, pos, List, [], ◌∷◌, length, slice_get, Option, Some, None}
-use Rattle.std.specs.List.{All}
-use Rattle.trace_ops.specs.declared.trace.Arg.{Arg}
+-- How a run leaves a piece's code: by a jump to where it leads now, and, where that is a stub, by the common exit.
+use Rattle.std.specs.Prelude.{◌≡◌, ℕ, ◌+◌, ◌^◌, ◌<◌, ◌≤◌, ℤ, pos, negsuc, List, [], ◌∷◌, length, slice_index_or}
+use Rattle.std.specs.List.{All, AllZip}
+use Rattle.trace_ops.specs.declared.trace.BoxId.{BoxId}
 use Rattle.trace_ops.specs.declared.piece.OptOp.{OptOp}
 use Rattle.trace_ops.specs.declared.piece.OptOp.TheVariants as opt
-use Rattle.opt_meaning.specs.StraightBoxes.{Env}
-use Rattle.opt_meaning.specs.StraightStep.{Finishes, opt_run}
+use Rattle.trace_ops.specs.Parts.{parts_of}
+use Rattle.trace_meaning.specs.declared.value.Value.{Value}
+use Rattle.trace_meaning.specs.World.{World, failed}
+use Rattle.trace_meaning.specs.Legs.{Leave, Fails, Jumps}
+use Rattle.opt_meaning.specs.Step.{opt_begin}
+use Rattle.arena_objects.specs.Layout.{address_of}
+use Rattle.arena_objects.specs.Standing.{Stands}
 use Rattle.guard_exit.specs.Codes.{register, stub_code, common_code}
+use Rattle.x64_encode.specs.declared.instr.AluOp.TheVariants as alu
+use Rattle.x64_encode.specs.declared.instr.Instr.{Instr}
+use Rattle.x64_encode.specs.declared.instr.Instr.TheVariants.{AluImm}
 use Rattle.target_base.specs.declared.place.Place.{Place}
 use Rattle.target_base.specs.declared.place.Place.TheVariants.{In, Word}
 use Rattle.x64_machine.specs.declared.state.Stop.TheVariants.{Returned}
-use Rattle.x64_machine.specs.State.{State, stops, target}
-use Rattle.x64_machine.specs.Step.{MachineStep}
-use Rattle.asm_select.specs.declared.operand.Operand.{Operand}
-use Rattle.asm_select.specs.declared.operand.Operand.TheVariants.{At, Imm}
+use Rattle.x64_machine.specs.declared.state.Turn.TheVariants.{Went}
+use Rattle.trace_ops.specs.Words.{IsWord}
+use Rattle.x64_machine.specs.Start.{IsStart}
 use Rattle.x64_machine.specs.Running.{Along}
-use Rattle.asm_select.specs.Slots.{Slot, Put, Leave, Go, Jumps, Lists, puts, size_of, sizes_of}
+use Rattle.x64_machine.specs.State.{State, acted, stops, target}
+use Rattle.x64_machine.specs.Step.{MachineStep}
+use Rattle.asm_select.specs.declared.told.Told.TheVariants as tell
+use Rattle.asm_select.specs.Slots.{Slot, Put, Go, Lists, puts, size_of, sizes_of}
+use Rattle.asm_select.specs.Slots as slot
 use Rattle.asm_select.specs.Valued.{value, MayHold, IsFit}
-use Rattle.asm_select.specs.Chosen.{Where, operand_of, all_code}
-use Rattle.asm_select.specs.Reached.{Holds, AreApart, HasWords, SameArena}
+use Rattle.asm_select.specs.Chosen.{Setting}
+use Rattle.asm_select.specs.Reached.{Reach, PrebuiltsStand, Holds, SameArena}
+use Rattle.asm_select.specs.Ended.{IsTaken, BoxesStand, PlacesStand, LeavesWith, AreParts, world_of, values_of, Counts, ComesTo}
+use Rattle.asm_select.specs.Asked.{IsAmong, Path, call_size}
+use Rattle.x64_encode.specs.declared.instr.Instr.TheVariants as instr
+use Rattle.x64_encode.specs.Listing.{Stands as StandsInCode}
+
+-- ---- stubs
 
 -- where a word is found after the common exit: that of a register in the frame word of its number
 abbrev pub saved_at : State → Place → ℤ
@@ -30,8 +47,8 @@ pub record Exits (ps pc exit : ℕ) (to : ℤ) (u : State) : Type 0 where
   pub path : List State
   pub few : length path ≤ 15
   pub t : State
-  pub along : (by : Jumps) (code : List ℕ) → length code < 2 ^ 32 → Lists by code ps (puts (stub_code to exit)) → Lists by code pc (puts common_code) → Along code path u t
-  pub returned : (by : Jumps) (code : List ℕ) → length code < 2 ^ 32 → Lists by code pc (puts common_code) → MachineStep code t (stops Returned t)
+  pub along : (by : slot.Jumps) (code : List ℕ) → length code < 2 ^ 32 → Lists by code ps (puts (stub_code to exit)) → Lists by code pc (puts common_code) → Along code path u t
+  pub returned : (by : slot.Jumps) (code : List ℕ) → length code < 2 ^ 32 → Lists by code pc (puts common_code) → MachineStep code t (stops Returned t)
   pub number : value t (In (register 0)) ≡ pos exit
   pub places : (p : Place) → MayHold p → saved_at t p ≡ value u p
   pub same : SameArena u t
@@ -40,60 +57,106 @@ abbrev pub StubExits : Type 0
 StubExits =
     (ps pc exit : ℕ) (to : ℤ) (u : State) → exit < 2 ^ 32 → IsFit u → u.at ≡ 0x40000000 + ps → target (0x40000000 + (ps + sizes_of (puts (stub_code to exit)))) to ≡ 0x40000000 + pc → Exits ps pc exit to u
 
--- ---- a whole straight piece
+-- ---- jumps that are taken
 
 -- an operation's jump, at a place, leads to a place
-abbrev pub LeadsTo : Jumps → (ℕ → ℕ) → ℕ → Slot → Type 0
+abbrev pub LeadsTo : slot.Jumps → (ℕ → ℕ) → ℕ → Slot → Type 0
 LeadsTo by to p (Put i) = Unit {0}
-LeadsTo by to p (Leave cond k) = target (0x40000000 + (p + 6)) (by k) ≡ 0x40000000 + to k
+LeadsTo by to p (slot.Leave cond k) = target (0x40000000 + (p + 6)) (by k) ≡ 0x40000000 + to k
 LeadsTo by to p (Go k) = target (0x40000000 + (p + 5)) (by k) ≡ 0x40000000 + to k
 
 -- and so does each jump of the slots from a place on
-abbrev pub AllLead : Jumps → (ℕ → ℕ) → ℕ → List Slot → Type 0
+abbrev pub AllLead : slot.Jumps → (ℕ → ℕ) → ℕ → List Slot → Type 0
 AllLead by to p [] = Unit {0}
 AllLead by to p (x ∷ xs) = LeadsTo by to p x × AllLead by to (p + size_of x) xs
 
--- an operand, read where the common exit saved it
-abbrev pub read_saved : State → Operand → ℤ
-read_saved t (At p) = saved_at t p
-read_saved t (Imm v) = v
+-- one instruction leads to a place, and changes nothing else
+pub record Enters (code : List ℕ) (t : State) (place : ℕ) : Type 0 where
+  pub u : State
+  pub made : MachineStep code t (acted Went u)
+  pub at : u.at ≡ 0x40000000 + place
+  pub values : (q : Place) → value u q ≡ value t q
+  pub flags : u.flags ≡ t.flags
+  pub same : SameArena t u
+  pub fit : IsFit t → IsFit u
 
-abbrev pub read_exit : Where → State → Option Arg → Option ℤ
-read_exit at t (Some a) = Some (read_saved t (operand_of at a))
-read_exit at t None = None
+abbrev pub JumpsEnter : Type 0
+JumpsEnter =
+    (by : slot.Jumps) (code : List ℕ) (to : ℕ → ℕ) (q k : ℕ) (x : Slot) (rest : List Slot) (t : State)
+    → length code < 2 ^ 32 → Lists by code q (x ∷ rest) → LeadsTo by to q x → IsTaken k x t → t.at ≡ 0x40000000 + q → Enters code t (to k)
 
--- the jump of operation k is among the slots
-abbrev pub HasJump : ℕ → List Slot → Type 0
-HasJump k [] = ⊥
-HasJump k (Put i ∷ xs) = HasJump k xs
-HasJump k (Leave cond e ∷ xs) = (e ≡ k) ⊎ HasJump k xs
-HasJump k (Go e ∷ xs) = (e ≡ k) ⊎ HasJump k xs
-
--- The code of a piece stands at p, the stub of operation k's exit at stub_at k, with the displacement to_common k to the
--- common exit at pc; each jump leads to its stub.
-pub record IsLaidOut (by : Jumps) (code : List ℕ) (p pc : ℕ) (stub_at exit_of : ℕ → ℕ) (to_common : ℕ → ℤ) (slots : List Slot) : Type 0 where
-  pub small : length code < 2 ^ 32
-  pub numbers : (k : ℕ) → HasJump k slots → exit_of k < 2 ^ 32
-  pub piece : Lists by code p slots
-  pub stubs : (k : ℕ) → HasJump k slots → Lists by code (stub_at k) (puts (stub_code (to_common k) (exit_of k)))
-  pub common : Lists by code pc (puts common_code)
-  pub jumps : AllLead by stub_at p slots
-  pub on : (k : ℕ) → HasJump k slots → target (0x40000000 + (stub_at k + sizes_of (puts (stub_code (to_common k) (exit_of k))))) (to_common k) ≡ 0x40000000 + pc
-
--- The run returns with the number of the finish's exit in rax, and the value of the finish is found where it was saved.
-pub record Finished (at : Where) (k : ℕ) (ops : List OptOp) (code : List ℕ) (exit_of : ℕ → ℕ) (s : State) (given : Option ℤ) : Type 0 where
-  pub j : ℕ
-  pub shown : Option Arg
-  pub finish : slice_get ops j ≡ Some (opt.Finish shown)
+-- A run over some slots of a piece comes to where the jump of the operation that is left leads now, as it is left.
+pub record Lands (loads stores : ℕ) (c : Setting) (k : ℕ) (ops : List OptOp) (xs : List Slot) (code : List ℕ) (to : ℕ → ℕ) (s : State) (l : Leave) : Type 0 where
+  pub key : ℕ
+  pub op : OptOp
+  pub among : IsAmong k ops key op
   pub path : List State
-  pub t : State
-  pub along : Along code path s t
-  pub returned : MachineStep code t (stops Returned t)
-  pub number : value t (In (register 0)) ≡ pos (exit_of (k + j))
-  pub found : read_exit at t shown ≡ given
-  pub few : length path ≤ length (all_code at k ops) + 16
-  pub same : SameArena s t
+  pub few : length path ≤ length xs
+  pub u : State
+  pub along : Along code path s u
+  pub at : u.at ≡ 0x40000000 + to key
+  pub fit : IsFit u
+  pub arena : Stands c.table (world_of l).objects u.arena
+  pub prebuilts : PrebuiltsStand c.table (world_of l).objects
+  pub parts : AreParts (length (world_of l).objects) (values_of l)
+  pub with : LeavesWith c op l u
+  pub counts : Counts loads stores s u
 
-abbrev pub PieceReturns : Type 0
-PieceReturns =
-    (at : Where) (k : ℕ) (ops : List OptOp) (env : Env) (given : Option ℤ) (by : Jumps) (code : List ℕ) (p pc : ℕ) (stub_at exit_of : ℕ → ℕ) (to_common : ℕ → ℤ) (s : State) → ((b : ℕ) → MayHold (at b)) → AreApart at ops → All HasWords ops → opt_run env ops ≡ Finishes given → Holds at ops env s → s.at ≡ 0x40000000 + p → IsLaidOut by code p pc stub_at exit_of to_common (all_code at k ops) → Finished at k ops code exit_of s given
+abbrev pub PieceLands : Type 0
+PieceLands =
+    (loads stores : ℕ) (c : Setting) (k : ℕ) (ops : List OptOp) (xs : List Slot) (by : slot.Jumps) (code : List ℕ) (to : ℕ → ℕ) (p : ℕ) (s : State) (key : ℕ) (op : OptOp) (l : Leave)
+    → IsAmong k ops key op → ComesTo (Counts loads stores s) c key op xs p s l → length code < 2 ^ 32 → Lists by code p xs → AllLead by to p xs
+    → Lands loads stores c k ops xs code to s l
+
+-- In a code in which a stretch stands and leads, so do the call at which it stops, and what is behind the call.
+abbrev pub StretchesGoOn : Type 0
+StretchesGoOn =
+    (by : slot.Jumps) (code : List ℕ) (to : ℕ → ℕ) (p q : ℕ) (xs rest : List Slot) (s u : State)
+    → Path p xs s (Put (instr.CallReg (register 11)) ∷ rest) q u → Lists by code p xs → AllLead by to p xs
+    → StandsInCode code q (instr.CallReg (register 11)) × Lists by code (q + call_size) rest × AllLead by to (q + call_size) rest
+
+-- ---- entries
+
+-- where the values of a label stand at its places, the piece may begin
+abbrev pub LabelHolds : Type 0
+LabelHolds =
+    (c : Setting) (label : List BoxId) (ops : List OptOp) (vs : List Value) (w : World) (t : State)
+    → IsFit t → Stands c.table w.objects t.arena → PrebuiltsStand c.table w.objects → AreParts (length w.objects) vs
+    → BoxesStand c.at (address_of w.objects) t label vs → Holds c tell.Nothing ops (opt_begin label vs w) t
+
+-- the places to which a jump brings its values are those of the label
+abbrev pub LabelStands : Type 0
+LabelStands =
+    (c : Setting) (to : List Place) (label : List BoxId) (addresses : ℕ → ℕ) (vs : List Value) (t : State)
+    → AllZip (λ (p : Place) (b : BoxId). c.at b.number ≡ p) to label → PlacesStand addresses t to vs → BoxesStand c.at addresses t label vs
+
+-- the boxes of an operation's snapshot, each once
+abbrev pub shown_by : OptOp → List BoxId
+shown_by (opt.Guard operation args n snap) = parts_of snap
+shown_by (opt.Exit n snap) = parts_of snap
+shown_by op = []
+
+-- A jump that has landed at another piece of the same table, the places of whose label are `c.to`, begins that piece.
+abbrev pub JumpBegins : Type 0
+JumpBegins =
+    (loads stores : ℕ) (c d : Setting) (k : ℕ) (ops next : List OptOp) (xs : List Slot) (code : List ℕ) (to : ℕ → ℕ) (s : State) (label : List BoxId) (vs : List Value) (w : World)
+    → (f : Lands loads stores c k ops xs code to s (Jumps vs w)) → d.table ≡ c.table
+    → AllZip (λ (p : Place) (b : BoxId). d.at b.number ≡ p) c.to label → Holds d tell.Nothing next (opt_begin label vs w) f.u
+
+-- So does a guard that has failed, at a piece whose label has a box for each of the guard's, at the same place.
+abbrev pub BridgeBegins : Type 0
+BridgeBegins =
+    (loads stores : ℕ) (c d : Setting) (k n : ℕ) (ops next : List OptOp) (xs : List Slot) (code : List ℕ) (to : ℕ → ℕ) (s : State) (label : List BoxId) (vs : List Value) (w : World)
+    → (f : Lands loads stores c k ops xs code to s (Fails n vs w)) → d.table ≡ c.table
+    → AllZip (λ (a b : BoxId). d.at b.number ≡ c.at a.number) (shown_by f.op) label → Holds d tell.Nothing next (opt_begin label vs (failed w)) f.u
+
+-- the first instruction of a loop: rbp goes on to frame word 16, so that words 0 to 31 have short displacements
+abbrev pub entry_instr : Instr
+entry_instr = AluImm alu.Sub (register 5) (negsuc 127)
+
+-- behind it a machine is fit for code, with the inputs from frame word 16 on
+abbrev pub StartFits : Type 0
+StartFits =
+    (arena_bytes : ℕ) (prebuilt : List ℤ) (entry : ℕ) (inputs : List ℤ) (ys : List Slot) (s : State)
+    → IsStart arena_bytes prebuilt entry inputs s → length inputs ≤ 64 → All IsWord inputs
+    → Reach entry (Put entry_instr ∷ ys) s ys (λ t. IsFit t × SameArena s t × ((k : ℕ) → k < length inputs → value t (Word (16 + k)) ≡ slice_index_or inputs k (pos 0)))

@@ -1,73 +1,39 @@
--- What selection is given, and what it gives.
-use Rattle.std.specs.Prelude.{◌≡◌, ℕ, ◌<◌, pos, Some, List, [], ◌∷◌, ◌++◌, length, slice_index_or}
-use Rattle.std.specs.List.{All}
+-- The places that are handed in.
+use Rattle.std.specs.Prelude.{◌≡◌, ℕ, ◌≤◌, List, length, slice_index_or}
+use Rattle.std.specs.List.{AllZip}
+use Rattle.trace_ops.specs.declared.trace.BoxId.{BoxId}
 use Rattle.trace_ops.specs.declared.trace.Arg.{Arg}
-use Rattle.trace_ops.specs.declared.trace.Arg.TheVariants.{Of}
-use Rattle.trace_ops.specs.declared.piece.OptOp.{OptOp}
-use Rattle.trace_ops.specs.declared.piece.OptOp.TheVariants as opt
+use Rattle.trace_ops.specs.declared.piece.Piece.{Piece}
 use Rattle.target_base.specs.declared.place.Place.{Place}
 use Rattle.target_base.specs.declared.place.Place.TheVariants.{Word}
-use Rattle.x64_encode.specs.declared.instr.Instr.{Instr}
-use Rattle.x64_encode.specs.declared.instr.Instr.TheVariants.{Jmp}
-use Rattle.asm_select.specs.declared.operand.Operand.{Operand}
-use Rattle.asm_select.specs.declared.operand.Operand.TheVariants.{At, Imm}
-use Rattle.asm_select.specs.declared.selected.Selected.{Selected}
-use Rattle.asm_select.specs.Slots.{instrs_of, jumps_from}
-use Rattle.asm_select.specs.Valued.{IsThere}
-use Rattle.asm_select.specs.Chosen.{Where, body_of, all_code, starts_from}
+use Rattle.linear_scan.specs.declared.places.Places.{Places}
+use Rattle.linear_scan.specs.Numbering.{AreNumbered, AreDefined}
+use Rattle.linear_scan.specs.Placing.{AreDistinct, Allocated}
+use Rattle.parallel_move.specs.Moving.{HasDistinctTargets}
+use Rattle.asm_select.specs.Valued.{MayHold}
+use Rattle.asm_select.specs.Chosen.{Where, Setting, pairs_of}
+use Rattle.asm_select.specs.Reached.{AreApart}
+use Rattle.asm_select.specs.Asked.{AreSafe}
 
 -- the place of each box
 abbrev pub where_in : List Place → Where
 where_in places b = slice_index_or places b (Word 16)
 
--- each place is one of the sixteen registers or of the frame words
-abbrev pub AreThere : List Place → Type 0
-AreThere places = (b : ℕ) → IsThere (where_in places b)
+-- The places of an allocation below the stack's words may hold boxes, and keep those apart that live together;
+-- calls keep those of boxes that live across them.
+abbrev pub PlacesServe : Type 0
+PlacesServe =
+    (piece : Piece) (registers : ℕ) (label : List Place) (places : Places)
+    → AreNumbered piece → AreDefined piece → Allocated piece registers label places → places.words ≤ 1048320
+    → ((b : ℕ) → MayHold (where_in places.at b)) × AreApart (where_in places.at) piece.ops × AreSafe (where_in places.at) piece.ops
 
-abbrev pub IsOperand : Operand → Type 0
-IsOperand (At p) = IsThere p
-IsOperand (Imm v) = Unit {0}
+-- Places that are distinct are distinct targets of moves.
+abbrev pub TargetsDiffer : Type 0
+TargetsDiffer = (c : Setting) (args : List Arg) → AreDistinct c.to → HasDistinctTargets (pairs_of c args c.to)
 
--- the boxes of an argument and of an operation are among the first n
-abbrev pub IsIn : ℕ → Arg → Type 0
-IsIn n (Of b) = b.number < n
-IsIn n _ = Unit {0}
-
-abbrev pub IsOpIn : ℕ → OptOp → Type 0
-IsOpIn n (opt.Plain code (Some r) args d) = (r.number < n) × All (IsIn n) args
-IsOpIn n _ = Unit {0}
-
-abbrev pub AreIn : ℕ → List OptOp → Type 0
-AreIn n [] = Unit {0}
-AreIn n (op ∷ ops) = IsOpIn n op × AreIn n ops
-
--- what is chosen so far
-pub record Drafted : Type 0 where
-  pub instrs : List Instr
-  pub starts : List ℕ
-  pub jumps : List (ℕ × ℕ)
-
--- operation k, which is the next one, starts here
-abbrev pub with_start : Drafted → Drafted
-with_start d = record d { starts = d.starts ++ length d.instrs ∷ [] }
-
-abbrev pub with_instrs : List Instr → Drafted → Drafted
-with_instrs more d = record d { instrs = d.instrs ++ more }
-
--- a jump of operation k comes next, whose displacement is still to be set
-abbrev pub with_go : ℕ → Drafted → Drafted
-with_go k d = record d { instrs = d.instrs ++ Jmp (pos 0) ∷ []; jumps = d.jumps ++ (length d.instrs, k) ∷ [] }
-
--- the jump of operation k comes next, where it has one
-abbrev pub with_jump : ℕ → OptOp → Drafted → Drafted
-with_jump k (opt.Finish value) d = with_go k d
-with_jump k _ d = d
-
-abbrev pub with_op : Where → OptOp → Drafted → Drafted
-with_op at op d = with_jump (length d.starts) op (with_instrs (body_of at op) (with_start d))
-
--- the instructions, starts and jumps are those of the code that is chosen
-pub record IsSelected (at : Where) (ops : List OptOp) (s : Selected) : Type 0 where
-  pub instrs : s.instrs ≡ instrs_of (all_code at 0 ops)
-  pub starts : s.starts ≡ starts_from 0 at 0 ops
-  pub jumps : s.jumps ≡ jumps_from 0 (all_code at 0 ops)
+-- The boxes of a label have its places.
+abbrev pub LabelsServe : Type 0
+LabelsServe =
+    (piece : Piece) (registers : ℕ) (label : List Place) (places : Places)
+    → AreNumbered piece → Allocated piece registers label places → length label ≡ length piece.label
+    → AllZip (λ (p : Place) (b : BoxId). where_in places.at b.number ≡ p) label piece.label

@@ -1,20 +1,113 @@
 // What the chosen code does. A caller calls a law for its clause.
 #![tactic(auto)]
 
-ghost use Rattle.asm_select.specs.Reached.{Steps, Simulates};
-ghost use Rattle.asm_select.specs.Exited.{StubExits, PieceReturns};
+ghost use Rattle.asm_select.specs.Given.{PlacesServe, TargetsDiffer, LabelsServe};
+ghost use Rattle.asm_select.specs.Ended.{CodeFollows};
+ghost use Rattle.asm_select.specs.Asked.{CallsFollow, AllocationsLeave, PieceComes};
+ghost use Rattle.asm_select.specs.Exited.{StubExits, JumpsEnter, PieceLands, StretchesGoOn, LabelHolds, LabelStands, JumpBegins, BridgeBegins, StartFits};
+ghost use Rattle.asm_select.specs.Suited.{SoundPiecesSuit, TablesServe, TableNumbersFit, PrebuiltsStayPut, ObjectResultHolds, ObjectStoreHolds};
 ghost use Rattle.asm_select.specs.Laid.{ChosenHaveRows, ExitsHaveRows, ChosenAreShort, SlotsStand, SlotsAreWhole};
 
+use arena_objects::{
+    addresses_are_apart, allocations_stand, bytes_are_taken, loads_find, spots_lie,
+};
+use linear_scan::boxes_live;
+use trace_ops::shifts_multiply;
 use x64_encode::spellings_are_short;
 
-/// The code of an operation does what the operation does.
-pub fn code_steps()
-    ensures { Steps }
+/// The places of an allocation may hold boxes, and keep those apart that live together.
+pub fn places_serve()
+    ensures { PlacesServe }
+{
+    boxes_live();
+}
+
+/// The places of a label, and those to which a jump moves its arguments.
+pub fn labels_serve()
+    ensures labels { LabelsServe }
+    ensures targets { TargetsDiffer }
 {}
 
-/// The code of a piece comes to the jump of the piece's finish.
-pub fn code_simulates()
-    ensures { Simulates }
+/// Sound pieces are such as the laws below ask for.
+pub fn sound_pieces_suit()
+    ensures { SoundPiecesSuit }
+{}
+
+/// Header numbers and addresses of a table in range fit instructions, and prebuilt objects stay where they are.
+pub fn tables_fit()
+    ensures serves { TablesServe }
+    ensures numbers { TableNumbersFit }
+    ensures prebuilts { PrebuiltsStayPut }
+{}
+
+/// What holds behind an operation on objects.
+pub fn objects_hold()
+    ensures result { ObjectResultHolds }
+    ensures store { ObjectStoreHolds }
+{}
+
+/// The code of an operation goes on with the operation's effect, or comes to the slot at which the piece is left.
+pub fn code_follows()
+    ensures { CodeFollows }
+{
+    shifts_multiply();
+    addresses_are_apart();
+    loads_find();
+    spots_lie();
+    spellings_are_short();
+}
+
+/// The code of an operation that calls the host comes to the call, and goes on from what the host leaves.
+pub fn calls_follow()
+    ensures { CallsFollow }
+{}
+
+/// What the host leaves of an allocation for which enough bytes are left.
+pub fn allocations_leave()
+    ensures { AllocationsLeave }
+{
+    allocations_stand();
+    bytes_are_taken();
+}
+
+/// The code of a piece comes straight to where the piece is left, or from call to call of the host.
+pub fn piece_comes()
+    ensures { PieceComes }
+{
+    shifts_multiply();
+    addresses_are_apart();
+    loads_find();
+    spots_lie();
+    spellings_are_short();
+}
+
+/// From such a slot one instruction leads to where its jump leads now, and changes nothing else.
+pub fn jumps_enter()
+    ensures { JumpsEnter }
+{}
+
+/// In a code in which some slots of a piece stand, a run over them comes to where the jump of the operation that is left leads,
+/// or to a call behind which the others stand.
+pub fn piece_lands()
+    ensures lands { PieceLands }
+    ensures calls { StretchesGoOn }
+{}
+
+/// Where values stand at the places of a label, its piece may begin.
+pub fn label_holds()
+    ensures holds { LabelHolds }
+    ensures stands { LabelStands }
+{}
+
+/// A machine begins fit for code, with the inputs in its frame.
+pub fn start_fits()
+    ensures { StartFits }
+{}
+
+/// Legs join: where a jump or a failing guard has landed at a piece, that piece may begin.
+pub fn legs_join()
+    ensures jump { JumpBegins }
+    ensures bridge { BridgeBegins }
 {}
 
 /// A stub and the common exit save the registers, leave the exit's number and return.
@@ -22,16 +115,12 @@ pub fn stub_exits()
     ensures { StubExits }
 {}
 
-/// Where a straight piece, its stubs and the common exit stand in a code, a run of the piece returns with the number of
-/// its finish's exit, and the finish's value is found where it was saved.
-pub fn piece_returns()
-    ensures { PieceReturns }
-{}
-
 /// Each chosen instruction has a row in the table of instructions.
 pub fn chosen_have_rows()
     ensures { ChosenHaveRows }
-{}
+{
+    spellings_are_short();
+}
 
 /// Each instruction of a stub and of the common exit has a row.
 pub fn exits_have_rows()

@@ -1,19 +1,14 @@
 //! Instructions for the operations of optimised pieces, and what they do on the machine.
 #![tactic(auto)]
 
-mod codes;
-mod draft;
 mod form;
 mod laws;
-mod moves;
 mod operand;
-mod selected;
+mod told;
 
 pub use laws::{
-    chosen_are_short, chosen_have_rows, code_simulates, code_steps, exits_have_rows, piece_returns,
-    slots_are_whole, slots_stand, stub_exits,
+    allocations_leave, calls_follow, chosen_are_short, chosen_have_rows, code_follows,
+    exits_have_rows, jumps_enter, label_holds, labels_serve, legs_join, objects_hold, piece_comes,
+    piece_lands, places_serve, slots_are_whole, slots_stand, sound_pieces_suit, start_fits,
+    stub_exits, tables_fit,
 };
-pub use selected::{Selected, select};
-
-#[cfg(test)]
-mod tests;

@@ -1,5 +1,5 @@
 -- How a run leaves the code: a stub for each exit, and one common exit.
-use Rattle.std.specs.Prelude.{ℕ, ◌*◌, ℤ, pos, List, [], ◌∷◌}
+use Rattle.std.specs.Prelude.{ℕ, ◌*◌, ◌-ℤ◌, ℤ, pos, List, [], ◌∷◌}
 use Rattle.target_base.specs.declared.reg.Reg.{Reg}
 use Rattle.x64_encode.specs.declared.instr.Mem.{Mem}
 use Rattle.x64_encode.specs.declared.instr.Mem.TheVariants.{At}
@@ -9,9 +9,9 @@ use Rattle.x64_encode.specs.declared.instr.Instr.TheVariants.{Store, MovImm, Jmp
 abbrev pub register : ℕ → Reg
 register n = record { 0 = n }
 
--- frame word k, from rbp on
+-- frame word k, where rbp leads to word 16, so that words 0 to 31 are reached by one byte
 abbrev pub frame_mem : ℕ → Mem
-frame_mem k = At (register 5) (pos (8 * k))
+frame_mem k = At (register 5) (pos (8 * k) -ℤ pos 128)
 
 -- a register is saved in the frame word of its number
 abbrev pub save : ℕ → Instr

@@ -25,14 +25,14 @@ use Rattle.x64_machine.specs.declared.state.Turn.TheVariants.{Stopped}
 use Rattle.x64_machine.specs.Words.{undefined}
 use Rattle.x64_machine.specs.Start.{first_regs, first_frame, first_arena}
 use Rattle.x64_machine.specs.State.{State, Acted, acted, counts_of}
-use Rattle.asm_select.specs.Slots.{sizes_of, bytes_of, unset}
-use Rattle.asm_select.specs.Laid.{SlotsAreWhole}
+use Rattle.straight_select.specs.Slots.{sizes_of, bytes_of, unset}
+use Rattle.straight_select.specs.Laid.{SlotsAreWhole}
 use Rattle.x64_encode.specs.Listing.{IsWhole}
-use Rattle.asm_select.specs.Valued.{value}
-use Rattle.asm_select.specs.Given.{where_in}
-use Rattle.asm_select.specs.Reached.{Holds}
-use Rattle.asm_select.specs.Exited.{read_exit}
-use Rattle.asm_select.specs.Exited as exit
+use Rattle.straight_select.specs.Valued.{value}
+use Rattle.straight_select.specs.Given.{where_in}
+use Rattle.straight_select.specs.Reached.{Holds}
+use Rattle.straight_select.specs.Exited.{read_exit}
+use Rattle.straight_select.specs.Exited as exit
 use Rattle.straight_run.specs.declared.image.Image.{Image}
 use Rattle.straight_run.specs.declared.image.LoopImage.{LoopImage}
 use Rattle.straight_run.specs.declared.session.Now.TheVariants as now

@@ -9,13 +9,13 @@ use Rattle.std.proofs.lemmas.Option.{slice_get_within}
 use Rattle.trace_ops.specs.declared.piece.OptOp.{OptOp}
 use Rattle.trace_ops.specs.declared.table.Table.{Table}
 use Rattle.trace_ops.specs.declared.trace.Trace.{Trace}
-use Rattle.guard_exit.specs.Codes.{common_code}
+use Rattle.straight_select.specs.ExitCodes.{common_code}
 use Rattle.x64_encode.specs.declared.instr.Instr.{Instr}
 use Rattle.target_base.specs.declared.place.Place.{Place}
 use Rattle.x64_encode.specs.Form.{spelling}
-use Rattle.asm_select.specs.Slots.{Slot, puts, instr_of, instrs_of, sizes_of, bytes_of, unset, HaveRows}
-use Rattle.asm_select.specs.Chosen.{all_code}
-use Rattle.asm_select.specs.Given.{where_in}
+use Rattle.straight_select.specs.Slots.{Slot, puts, instr_of, instrs_of, sizes_of, bytes_of, unset, HaveRows}
+use Rattle.straight_select.specs.Chosen.{all_code}
+use Rattle.straight_select.specs.Given.{where_in}
 use Rattle.straight_run.specs.declared.image.LoopImage.{LoopImage}
 use Rattle.straight_run.specs.Straight.{piece_ops}
 use Rattle.straight_run.specs.Layout.{IsStraightLoop, places_of, body_of, way_back, stub_bytes, stub_behind, loop_code, whole_of, loop_image, IsImage, BodiesHaveRows}

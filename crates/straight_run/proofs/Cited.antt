@@ -6,8 +6,8 @@ use Rattle.opt_meaning.specs.StraightStep as step
 use Rattle.x64_encode.specs.declared.instr.Instr.{Instr}
 use Rattle.x64_encode.specs.Form.{spelling}
 use Rattle.x64_machine.specs.Running.{OneOutcome, RunsStop}
-use Rattle.asm_select.specs.Exited.{PieceReturns}
-use Rattle.asm_select.specs.Laid.{ChosenHaveRows, ExitsHaveRows, ChosenAreShort, SlotsStand}
+use Rattle.straight_select.specs.Exited.{PieceReturns}
+use Rattle.straight_select.specs.Laid.{ChosenHaveRows, ExitsHaveRows, ChosenAreShort, SlotsStand}
 
 pub record Cited : Type 0 where
   pub returns : PieceReturns

@@ -16,7 +16,7 @@ use Rattle.x64_encode.specs.declared.instr.Instr.{Instr}
 use Rattle.target_base.specs.declared.place.Place.{Place}
 use Rattle.target_base.specs.declared.place.Place.TheVariants.{Word}
 use Rattle.x64_encode.specs.Form.{HasRow, spelling}
-use Rattle.asm_select.specs.Slots.{puts, bytes_of, unset, HaveRows}
+use Rattle.straight_select.specs.Slots.{puts, bytes_of, unset, HaveRows}
 use Rattle.straight_run.specs.Straight.{IsNew, IsStraightFrom, number_in, piece_op, piece_ops}
 use Rattle.straight_run.specs.Layout.{AreNew, shown_of, words_from}
 use Rattle.straight_run.specs.Drafting.{with_box, with_result, Drafted, with_finish, with_plain, with_code}

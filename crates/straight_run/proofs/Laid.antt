@@ -12,20 +12,20 @@ use Rattle.std.proofs.lemmas.Option.{slice_get_within, get_or_from_slice_get}
 use Rattle.trace_ops.specs.declared.trace.BoxId.{BoxId}
 use Rattle.trace_ops.specs.declared.trace.Op.{Op}
 use Rattle.trace_ops.specs.declared.trace.Trace.{Trace}
-use Rattle.guard_exit.specs.Codes.{register, stub_code, common_code}
+use Rattle.straight_select.specs.ExitCodes.{register, stub_code, common_code}
 use Rattle.x64_encode.specs.declared.instr.Instr.{Instr}
 use Rattle.x64_encode.specs.declared.instr.Instr.TheVariants.{MovImm}
 use Rattle.x64_encode.specs.Fields.{rex, modrm, imm32, imm64}
 use Rattle.x64_encode.specs.Form.{spelling}
 use Rattle.x64_machine.specs.Words.{wrap, unsigned}
 use Rattle.x64_machine.specs.State.{target}
-use Rattle.asm_select.specs.Slots.{Slot, Put, Leave, Go, puts, instr_of, size_of, sizes_of, bytes_of, unset, HaveRows, Lists}
-use Rattle.asm_select.specs.Valued.{MayHold}
-use Rattle.asm_select.specs.Chosen.{Where, all_code}
-use Rattle.asm_select.specs.Chosen as chosen
-use Rattle.asm_select.specs.Given.{where_in, AreIn}
-use Rattle.asm_select.specs.Exited.{AllLead, IsLaidOut}
-use Rattle.asm_select.specs.Laid.{AreNear, SlotsStand}
+use Rattle.straight_select.specs.Slots.{Slot, Put, Leave, Go, puts, instr_of, size_of, sizes_of, bytes_of, unset, HaveRows, Lists}
+use Rattle.straight_select.specs.Valued.{MayHold}
+use Rattle.straight_select.specs.Chosen.{Where, all_code}
+use Rattle.straight_select.specs.Chosen as chosen
+use Rattle.straight_select.specs.Given.{where_in, AreIn}
+use Rattle.straight_select.specs.Exited.{AllLead, IsLaidOut}
+use Rattle.straight_select.specs.Laid.{AreNear, SlotsStand}
 use Rattle.straight_run.specs.Straight.{IsStraightFrom, piece_op, piece_ops}
 use Rattle.straight_run.specs.Layout.{IsStraight, IsStraightLoop, places_of, body_of, way_back, stub_bytes, stub_behind, loop_code, loops_code, whole_of, BodiesHaveRows}
 use Rattle.straight_run.proofs.Cited.{Cited}

@@ -29,9 +29,9 @@ use Rattle.opt_meaning.specs.StraightStep as step
 use Rattle.target_base.specs.declared.reg.Reg.{Reg}
 use Rattle.target_base.specs.declared.place.Place.{Place}
 use Rattle.target_base.specs.declared.place.Place.TheVariants.{In, Word}
-use Rattle.asm_select.specs.Valued.{MayHold}
-use Rattle.asm_select.specs.Given.{where_in, IsIn, AreIn}
-use Rattle.asm_select.specs.Reached.{IsUse, IsUsedIn, Uses, IsApart, AreApart, IsWordArg, HasWords}
+use Rattle.straight_select.specs.Valued.{MayHold}
+use Rattle.straight_select.specs.Given.{where_in, IsIn, AreIn}
+use Rattle.straight_select.specs.Reached.{IsUse, IsUsedIn, Uses, IsApart, AreApart, IsWordArg, HasWords}
 use Rattle.straight_run.specs.Straight.{IsScoped, IsNew, IsWordOp, AreShown, IsStraightFrom, renumbered, first_arg, piece_op, finish_op, piece_ops}
 use Rattle.straight_run.specs.Layout.{words_from, shown_of}
 use Rattle.straight_run.proofs.Recorded.{number_below}

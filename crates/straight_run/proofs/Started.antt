@@ -9,7 +9,7 @@ use Rattle.target_base.specs.declared.place.Place.{Place}
 use Rattle.target_base.specs.declared.place.Place.TheVariants.{In, Word}
 use Rattle.x64_machine.specs.State.{State}
 use Rattle.x64_machine.specs.Start.{zeros, first_regs, first_frame, IsStart}
-use Rattle.asm_select.specs.Valued.{value, IsFit}
+use Rattle.straight_select.specs.Valued.{value, IsFit}
 
 length-zeros : (n : ℕ) → length (zeros n) ≡ n
 unfolding zeros

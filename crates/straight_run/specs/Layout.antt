@@ -11,10 +11,10 @@ use Rattle.trace_ops.specs.declared.trace.TraceSet.{TraceSet}
 use Rattle.opt_meaning.specs.StraightStep as step
 use Rattle.target_base.specs.declared.place.Place.{Place}
 use Rattle.target_base.specs.declared.place.Place.TheVariants.{Word}
-use Rattle.guard_exit.specs.Codes.{stub_code, common_code}
-use Rattle.asm_select.specs.Slots.{Slot, puts, sizes_of, bytes_of, unset, HaveRows}
-use Rattle.asm_select.specs.Chosen.{all_code}
-use Rattle.asm_select.specs.Given.{where_in, AreThere, AreIn}
+use Rattle.straight_select.specs.ExitCodes.{stub_code, common_code}
+use Rattle.straight_select.specs.Slots.{Slot, puts, sizes_of, bytes_of, unset, HaveRows}
+use Rattle.straight_select.specs.Chosen.{all_code}
+use Rattle.straight_select.specs.Given.{where_in, AreThere, AreIn}
 use Rattle.straight_run.specs.declared.image.Image.{Image}
 use Rattle.straight_run.specs.declared.image.LoopImage.{LoopImage}
 use Rattle.straight_run.specs.Straight.{IsNew, IsStraightFrom, renumbered, first_arg, piece_ops}

@@ -1,7 +1,7 @@
 -- An activation of a printed image.
 use Rattle.std.specs.Prelude.{◌≡◌, ℕ, zero, suc, ◌+◌, ◌*◌, List, [], Option, Some, None, slice_get, ℤ}
 use Rattle.std.specs.Int.{w64, cast_unsigned}
-use Rattle.guard_exit.specs.Codes.{register}
+use Rattle.straight_select.specs.ExitCodes.{register}
 use Rattle.x64_machine.specs.declared.state.Stop.{Stop}
 use Rattle.x64_machine.specs.declared.state.Stop.TheVariants.{Returned, HostCall, BadAddress, BadCode, UndefinedFlag}
 use Rattle.x64_machine.specs.declared.state.Turn.{Turn}
@@ -9,8 +9,8 @@ use Rattle.x64_machine.specs.declared.state.Turn.TheVariants.{Went, Stopped}
 use Rattle.x64_machine.specs.Running.{Runs}
 use Rattle.x64_machine.specs.Start.{IsStart}
 use Rattle.x64_machine.specs.State.{State, acted, reg, counts_of}
-use Rattle.asm_select.specs.Given.{where_in}
-use Rattle.asm_select.specs.Exited.{read_exit}
+use Rattle.straight_select.specs.Given.{where_in}
+use Rattle.straight_select.specs.Exited.{read_exit}
 use Rattle.straight_run.specs.declared.image.Image.{Image}
 use Rattle.straight_run.specs.declared.image.LoopImage.{LoopImage}
 use Rattle.straight_run.specs.declared.session.Now.{Now}

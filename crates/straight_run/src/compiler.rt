@@ -3,17 +3,16 @@
 
 ghost use Rattle.std.specs.Prelude.{◌≡◌, ◌≤◌, ◌<◌, ◌+◌, ◌++◌, ◌^◌, pos, neg_ℤ, length, IfOk, OnOk};
 ghost use Rattle.x64_encode.specs.Form.{HasRow, spelling};
-ghost use Rattle.guard_exit.specs.Codes.{stub_code, common_code};
-ghost use Rattle.asm_select.specs.Slots.{puts, instrs_of, bytes_of, unset, HaveRows};
+ghost use Rattle.straight_select.specs.ExitCodes.{stub_code, common_code};
+ghost use Rattle.straight_select.specs.Slots.{puts, instrs_of, bytes_of, unset, HaveRows};
 ghost use Rattle.straight_run.specs.Straight.{piece_ops};
 ghost use Rattle.straight_run.specs.Layout.{IsStraight, AreStraight, IsImage, shown_of, words_from, places_of, body_of, stub_behind, loop_code, loop_image};
 
 use crate::draft::Draft;
 use crate::image::{Image, LoopImage};
 use crate::laws::code_has_rows;
-use asm_select::{Selected, select};
-use guard_exit::{common_exit, stub};
 use std::alloc::{AllocError, Global};
+use straight_select::{Selected, common_exit, select, stub};
 use trace_ops::{Arg, BoxId, Kind, List, Piece, Trace, TraceSet};
 use x64_encode::{Instr, Place, encode};
 

@@ -4,11 +4,11 @@ ghost use Rattle.straight_run.specs.Straight.{RunFinishes};
 ghost use Rattle.straight_run.specs.Behaving.{ImagesBehave, ImagesAreWhole};
 ghost use Rattle.straight_run.specs.OnlyWords.{WellFormedSetsAreStraight};
 
-use asm_select::{
+use opt_meaning::straight_pieces_finish;
+use straight_select::{
     chosen_are_short, chosen_have_rows, exits_have_rows, piece_returns, slots_are_whole,
     slots_stand,
 };
-use opt_meaning::straight_pieces_finish;
 use x64_encode::spellings_are_short;
 use x64_machine::{runs_compose, steps_have_one_outcome};
 

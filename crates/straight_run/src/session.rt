@@ -3,9 +3,9 @@
 
 ghost use Rattle.std.specs.Prelude.{◌≡◌, ◌≤◌, ◌<◌, ◌+◌, ◌*◌, ◌^◌, pos, length, slice_index_or, IfOk};
 ghost use Rattle.x64_machine.specs.State.{acted};
-ghost use Rattle.asm_select.specs.Chosen.{operand_of};
-ghost use Rattle.asm_select.specs.Given.{where_in};
-ghost use Rattle.asm_select.specs.Exited.{saved_at, read_saved};
+ghost use Rattle.straight_select.specs.Chosen.{operand_of};
+ghost use Rattle.straight_select.specs.Given.{where_in};
+ghost use Rattle.straight_select.specs.Exited.{saved_at, read_saved};
 ghost use Rattle.x64_machine.specs.Running.{Runs};
 ghost use Rattle.straight_run.specs.Session.{IsActivation, now_at, stopped, returned, value_shown};
 

@@ -1,5 +1,5 @@
 use Rattle.std.proofs.Common.{◌≡◌, ◌∙◌, arith}
-use Rattle.asm_select.specs.Slots.{instrs_of}
+use Rattle.straight_select.specs.Slots.{instrs_of}
 use Rattle.straight_run.specs.Layout.{body_of}
 use Rattle.straight_run.proofs.Built.{items_rows, body_length, loop_bytes}
 use Rattle.straight_run.proofs.compiler.add_loop.Goals as goal

@@ -1,8 +1,8 @@
 use Rattle.std.proofs.Common.{◌≡◌}
 use Rattle.std.proofs.lemmas.Result.{IfOk-weaker}
-use Rattle.asm_select.specs.declared.selected.Selected.{Selected}
-use Rattle.asm_select.specs.Slots.{instrs_of}
-use Rattle.asm_select.specs.Given.{where_in, IsSelected}
+use Rattle.straight_select.specs.declared.selected.Selected.{Selected}
+use Rattle.straight_select.specs.Slots.{instrs_of}
+use Rattle.straight_select.specs.Given.{where_in, IsSelected}
 use Rattle.straight_run.specs.Layout.{body_of}
 use Rattle.straight_run.proofs.Built.{same_body}
 use Rattle.straight_run.proofs.compiler.selected.Goals as goal

@@ -1,5 +1,0 @@
-use Rattle.asm_select.proofs.Follows.{steps}
-use Rattle.asm_select.proofs.laws.code_steps.Goals as goal
-
-pub returns : goal.returns
-returns c = steps

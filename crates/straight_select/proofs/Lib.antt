@@ -1,0 +1,13 @@
+mod Steps
+mod Effects
+mod Micro
+mod Numbers
+mod Arms
+mod Flagging
+mod Operations
+mod Follows
+mod Exiting
+mod Appends
+mod Rows
+mod Standing
+mod Lengths

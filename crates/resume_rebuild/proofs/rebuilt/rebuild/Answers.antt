@@ -14,6 +14,12 @@ pub unreachable-requires : goal.unreachable-requires
 unreachable-requires c =
     is_placed c.args.table.now c.args.guard c.requires.row (ap (place_of c.args.guard) (sym c.items-rows.ensures) ∙ sym c.place_of.ensures ∙ c.in_default.is)
 
+pub rebuild_row-requires-clause-known : goal.rebuild_row-requires-clause-known
+rebuild_row-requires-clause-known c =
+    let table = c.args.table.now in
+    let guard = c.args.guard in
+    c.requires.shapes c.index-rows-k.result (row_is table guard c.in-Some.k c.items-rows.result.now c.index-rows-k.result c.place_of.result c.items-rows.ensures c.place_of.ensures c.in-Some.is c.index-rows-k.is)
+
 pub returns : goal.returns
 returns c snap stands placed =
     let table = c.args.table.now in
@@ -24,7 +30,7 @@ returns c snap stands placed =
     let old = c.args.arena.now in
     let new = c.rebuild_row.new.arena in
     let before = c.args.out.now in
-    let after = c.rebuild_row.new.out in
+    let after = c.rebuild_row.new.self in
     let result = c.rebuild_row.result in
     let t = before.table in
     let is = row_is table guard c.in-Some.k c.items-rows.result.now row c.place_of.result c.items-rows.ensures c.place_of.ensures c.in-Some.is c.index-rows-k.is in

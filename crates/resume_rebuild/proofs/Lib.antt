@@ -18,3 +18,4 @@ pub mod Bound
 pub mod Taken
 pub mod Placed
 pub mod Given
+pub mod Exits

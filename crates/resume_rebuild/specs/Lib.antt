@@ -11,3 +11,4 @@ pub mod Read
 pub mod Standing
 pub mod Laws
 pub mod Joint
+pub mod Exits

@@ -3,9 +3,11 @@
 ghost use Rattle.resume_rebuild.specs.Laws.{RebuildsWhatIsMeant, RebuildsFromParts, TakesWhatIsAsked};
 ghost use Rattle.resume_rebuild.specs.Joint.{GivesWhatIsMeant};
 ghost use Rattle.resume_rebuild.specs.Guarding.{PlacesTellKinds};
+ghost use Rattle.resume_rebuild.specs.Exits.{FormedPiecesRebuild};
 
 use arena_objects::{
-    addresses_are_apart, allocations_stand, bytes_are_taken, spots_lie, stores_write, walk_finds,
+    addresses_are_apart, allocations_stand, bytes_are_taken, prebuilts_stand, spots_lie,
+    stores_write, walk_finds,
 };
 use trace_meaning::boxes_keep_their_values;
 use trace_ops::equality_decides;
@@ -26,5 +28,14 @@ pub fn rebuilds_what_is_meant()
     stores_write();
     walk_finds();
     boxes_keep_their_values();
+    equality_decides();
+}
+
+/// At a guard of a formed piece whose table stands, and for each of whose boxes there is a place, all holds that rebuilding
+/// asks for: each sound piece is formed.
+pub fn formed_pieces_rebuild()
+    ensures { FormedPiecesRebuild }
+{
+    prebuilts_stand();
     equality_decides();
 }

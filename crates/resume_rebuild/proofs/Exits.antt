@@ -156,8 +156,7 @@ module _ (t : Table) (objects virtuals : ℕ) (many : length t.prebuilts ≤ obj
   named_stores (p ∷ ps) below names words =
       let own = all_left ArgHasWord (constants_in_arg p.base ++ constants_in_val p.value) (flat_map (λ (q : Pending). constants_in_arg q.base ++ constants_in_val q.value) ps) words in
       let named = All-head (NamesPending t) p ps names in
-      let more = named_stores ps (All-tail (λ (q : Pending). IsBelow virtuals q.value) p ps below) (All-tail (NamesPending t) p ps names) (all_right ArgHasWord (constants_in_arg p.base ++ constants_in_val p.value) (flat_map (λ (q : Pending). constants_in_arg q.base ++ constants_in_val q.value) ps) words) in
-      (
+      let more = named_stores ps (All-tail (λ (q : Pending). IsBelow virtuals q.value) p ps below) (All-tail (NamesPending t) p ps names) (all_right ArgHasWord (constants_in_arg p.base ++ constants_in_val p.value) (flat_map (λ (q : Pending). constants_in_arg q.base ++ constants_in_val q.value) ps) words) in (
         All-cons (λ (q : Pending). IsNamed objects virtuals (Known q.base)) p ps (named_base p named own) more.0,
         All-cons (λ (q : Pending). IsNamed objects virtuals q.value) p ps (named_one p.value (All-head (λ (q : Pending). IsBelow virtuals q.value) p ps below) named.2 (all_right ArgHasWord (constants_in_arg p.base) (constants_in_val p.value) own)) more.1,
       )

@@ -15,12 +15,7 @@ use resume_numbering::FrameRow;
 use trace_meaning::{RecFrame, Value};
 use trace_ops::List;
 
-fn push_slots(
-    walked: &Walked,
-    read: &Read,
-    numbers: &[u32],
-    slots: &mut Vec<Value>,
-)
+fn push_slots(walked: &Walked, read: &Read, numbers: &[u32], slots: &mut Vec<Value>)
     requires noted { AreNoted read.now.places.now read.now.noted.now }
     requires empty { slots.old.items ≡ [] }
     requires room { length numbers.now ≤ vec_capacity slots.old }

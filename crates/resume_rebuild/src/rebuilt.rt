@@ -237,7 +237,10 @@ impl Rebuilt {
         let depth = deepest(table.frames.items(), table.guards.items());
         let count = larger(depth, self.room.pool.len());
         let width = larger(widest(table.frames.items()), self.room.width);
-        let virtuals = larger(most_virtuals(table.guards.items()), self.room.made.capacity());
+        let virtuals = larger(
+            most_virtuals(table.guards.items()),
+            self.room.made.capacity(),
+        );
         let consts = larger(table.consts.items().len(), self.room.words.capacity());
         let most = larger(reach_of(table.consts.items()), self.room.most);
         let boxes = larger(boxes_of(table), self.room.noted.len());

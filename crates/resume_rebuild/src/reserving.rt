@@ -87,7 +87,11 @@ pub(crate) fn deepest(rows: &[FrameRow], guards: &[GuardRow]) -> usize
 }
 
 /// So many empty lists with room for so many slots.
-pub(crate) fn made_pool(alloc: Global, count: usize, width: usize) -> Result<Vec<Vec<Value>>, AllocError>
+pub(crate) fn made_pool(
+    alloc: Global,
+    count: usize,
+    width: usize,
+) -> Result<Vec<Vec<Value>>, AllocError>
     ensures count { IfOk result (λ pool. vec_len pool ≡ count) }
     ensures each { IfOk result (λ pool. All (HasSpace width) pool.items) }
 {

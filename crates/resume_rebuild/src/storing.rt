@@ -12,8 +12,8 @@ ghost use Rattle.resume_rebuild.specs.Storing.{IsOffset, stored_by};
 
 use crate::words::{Read, tag_word};
 use resume_numbering::PendingRow;
-use trace_ops::{Spot, Table, Word};
 use target_base::ArenaWords;
+use trace_ops::{Spot, Table, Word};
 
 // So many words in bytes, where that isn't beyond each arena.
 fn words_in_bytes(words: u64) -> Option<u64>

@@ -1,0 +1,14 @@
+pub mod Rebuilding
+pub mod Rows
+pub mod Guarding
+pub mod Reserved
+pub mod Room
+pub mod Storing
+pub mod Noted
+pub mod Firsts
+pub mod Known
+pub mod Read
+pub mod Standing
+pub mod Laws
+pub mod Joint
+pub mod Exits

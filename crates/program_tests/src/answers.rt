@@ -98,8 +98,13 @@ fn gen_reads_nothing(rt: HostRuntime) -> Result<(), Fail> {
 
 #[test]
 fn check_counts_or_names_the_first_fault(rt: HostRuntime) -> Result<(), Fail> {
-    let table: [(&str, Status, &str); 14] = [
+    let table: [(&str, Status, &str); 15] = [
         ("", Status::Done, "ok traces 0 operations 0 weight 0\n"),
+        (
+            "%loop L\n[]\nfinish()\n%session\nrun Z 5\n",
+            Status::Refused,
+            "error line 5: session name\n",
+        ),
         (
             "%loop L\n[i0, i1]\ni2 = int_add(i0, i1)\nfinish(i2)\n%session\nstart A L (9223372036854775807, 1)\nrun A 10\n",
             Status::Done,

@@ -1,9 +1,6 @@
--- What `check` answers for an input.
-use Rattle.std.specs.Prelude.{◌≡◌, ◌⊎◌, ℕ, List, ◌++◌, codes, length, sum_by, Ok}
-use Rattle.std.specs.Fmt.{decimal}
-use Rattle.trace_ops.specs.declared.trace.Trace.{Trace}
+-- The set of traces that an input stands for, or why there is none.
+use Rattle.std.specs.Prelude.{◌≡◌, ◌⊎◌, ℕ, List, Ok}
 use Rattle.trace_ops.specs.declared.trace.TraceSet.{TraceSet}
-use Rattle.trace_ops.specs.Weights.{weight_of}
 use Rattle.descr_table.specs.declared.fault.TableFault.{TableFault}
 use Rattle.descr_table.specs.declared.fault.TableFault.TheVariants as table
 use Rattle.trace_text.specs.declared.fault.TextFault.{TextFault}
@@ -12,37 +9,13 @@ use Rattle.trace_text.specs.Faults.{Fails}
 use Rattle.trace_text.specs.Sections.{set_at}
 use Rattle.trace_check.specs.declared.fault.CheckFault.{CheckFault}
 use Rattle.trace_check.specs.declared.fault.CheckFault.TheVariants as check
-use Rattle.trace_check.specs.Faults.{HasCause, IsChecked}
+use Rattle.trace_check.specs.Faults.{HasCause}
 use Rattle.tj_app.specs.declared.refusal.Fault.{Fault}
 use Rattle.tj_app.specs.declared.refusal.Fault.TheVariants as fault
 
 -- the input stands for this set, in front of its session
 abbrev pub StandsFor : List ℕ → TraceSet → Type 0
 StandsFor input set = (place : ℕ) × (set_at input ≡ Ok (set, place))
-
--- how many operations the traces have
-abbrev pub operations_of : TraceSet → ℕ
-operations_of set = sum_by (λ (t : Trace). length t.ops) set.traces
-
-abbrev pub traces_text : TraceSet → List ℕ
-traces_text set = codes "ok traces " ++ decimal (length set.traces)
-
-abbrev pub operations_text : TraceSet → List ℕ
-operations_text set = codes " operations " ++ decimal (operations_of set)
-
-abbrev pub weight_text : TraceSet → List ℕ
-weight_text set = codes " weight " ++ (decimal (weight_of set) ++ codes "\n")
-
--- `ok traces T operations O weight W`
-abbrev pub ok_text : TraceSet → List ℕ
-ok_text set = traces_text set ++ (operations_text set ++ weight_text set)
-
--- The input stands for a set that is well formed and not too heavy, and the text has its counts.
-pub record IsCounted (input text : List ℕ) : Type 0 where
-  pub set : TraceSet
-  pub stands : StandsFor input set
-  pub checked : IsChecked set
-  pub written : text ≡ ok_text set
 
 -- a refusal of the table, as the program tells it
 abbrev pub table_fault : TableFault → Fault

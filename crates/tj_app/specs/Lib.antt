@@ -4,6 +4,7 @@ pub mod Running
 pub mod Refusing
 pub mod Asking
 pub mod Checking
+pub mod Counting
 pub mod Unbuilt
 pub mod Telling
 pub mod Top

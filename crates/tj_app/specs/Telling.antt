@@ -42,6 +42,10 @@ abbrev pub IsBadSession : List ℕ → Fault → Type 0
 IsBadSession input f =
     (set : TraceSet) × StandsFor input set × IsChecked set × IsRefusedSession set (session_part input) f
 
+-- why an input is refused by every command that reads one
+abbrev pub IsUnread : List ℕ → Fault → Type 0
+IsUnread input f = IsBad input f ⊎ IsBadSession input f
+
 -- the command, or the input that is right, needs something that isn't built, and this is the first of it
 abbrev pub IsUnbuilt : Command → List ℕ → Fault → Type 0
 IsUnbuilt command input f =

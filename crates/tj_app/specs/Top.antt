@@ -14,7 +14,6 @@ use Rattle.session_text.specs.declared.session.SessionText.{SessionText}
 use Rattle.straight_run.specs.declared.image.Image.{Image}
 use Rattle.straight_run.specs.Layout.{AreStraight, IsImage}
 use Rattle.straight_run.specs.Behaving.{Behaves}
-use Rattle.trace_check.specs.Faults.{IsChecked}
 use Rattle.x64_encode.specs.Listing.{IsWhole}
 use Rattle.tj_app.specs.declared.ending.Status.{Status}
 use Rattle.tj_app.specs.declared.refusal.Fault.{Fault}
@@ -22,8 +21,8 @@ use Rattle.tj_app.specs.declared.refusal.Fault.TheVariants.{Syntax, Float, Unkno
 use Rattle.tj_app.specs.declared.words.Command.{Command}
 use Rattle.tj_app.specs.declared.words.Command.TheVariants.{Check, Opt, Image as ImageOf, Run, Gen}
 use Rattle.tj_app.specs.Asking.{Asks}
-use Rattle.tj_app.specs.Checking.{StandsFor, IsCounted, IsBad}
-use Rattle.tj_app.specs.Telling.{IsBuilt, IsUntold}
+use Rattle.tj_app.specs.Counting.{IsCounted}
+use Rattle.tj_app.specs.Telling.{Tells, IsBuilt, IsUnread, IsUntold}
 use Rattle.tj_app.specs.Refusing.{status_of, fault_text}
 use Rattle.tj_app.specs.Session.{IsSeen}
 use Rattle.tj_app.specs.Output.{image_text}
@@ -80,12 +79,12 @@ pub record Done (words : List (List ℕ)) (left left' taken taken' : Option (Lis
 
 -- what stands behind a refusal of an input by a command
 abbrev pub IsRefusedBy : Command → List ℕ → Fault → Type 0
-IsRefusedBy Check input f = IsBad input f
+IsRefusedBy Check input f = IsUnread input f
 IsRefusedBy command input f = IsUntold command input f
 
 -- the input is right, and nothing that isn't built is needed for it
 abbrev pub IsAnswerable : Command → List ℕ → Type 0
-IsAnswerable Check input = (set : TraceSet) × StandsFor input set × IsChecked set
+IsAnswerable Check input = (set : TraceSet) × (session : SessionText) × Tells input set session
 IsAnswerable command input = (set : TraceSet) × (session : SessionText) × IsBuilt command input set session
 
 -- the command refuses its input

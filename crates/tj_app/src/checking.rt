@@ -1,30 +1,16 @@
-//! The answer of `check` to an input.
-ghost use Rattle.std.specs.Prelude.{◌≡◌, ◌≤◌, ◌++◌, length, MatchResult, IfOk, OnOk};
+//! The set of traces that an input stands for.
+ghost use Rattle.std.specs.Prelude.{◌≡◌, ◌≤◌, length, MatchResult};
 ghost use Rattle.trace_ops.specs.InRange.{IsInRange};
-ghost use Rattle.trace_check.specs.Faults.{HasCause, IsChecked};
-ghost use Rattle.tj_app.specs.Checking.{StandsFor, IsCounted, IsBad, IsBadText, IsBadSet, operations_of, traces_text, operations_text, weight_text, ok_text, table_fault, text_fault, set_fault};
+ghost use Rattle.trace_check.specs.Faults.{IsChecked};
+ghost use Rattle.tj_app.specs.Checking.{StandsFor, IsBad, IsBadText, IsBadSet, table_fault, text_fault, set_fault};
 
-use crate::puts::{put, put_number};
 use crate::refusal::Fault;
 use descr_table::TableFault;
-use std::alloc::{AllocError, Global};
+use std::alloc::Global;
 use text_lines::lines_are_few;
 use trace_check::{CheckFault, Checked, check};
-use trace_ops::{TraceSet, weight};
+use trace_ops::TraceSet;
 use trace_text::{TextFault, read_set};
-
-/// The line with the counts of an input that stands for a well-formed set, or why there is none. What stands behind
-/// the input's `%session` line is not read.
-pub fn counts(alloc: Global, bytes: &[u8]) -> Result<Vec<u8>, Fault>
-    requires { length bytes.now ≤ 16777216 }
-    ensures { MatchResult result (λ text. IsCounted bytes.now text.items) (IsBad bytes.now) }
-{
-    let checked = checked_set(alloc, bytes)?;
-    match counts_text(alloc, checked.set()) {
-        Ok(text) => Ok(text),
-        Err(_) => Err(Fault::Memory),
-    }
-}
 
 /// The well-formed set that an input stands for in front of its session, or why there is none.
 pub fn checked_set(alloc: Global, bytes: &[u8]) -> Result<Checked, Fault>
@@ -102,52 +88,4 @@ fn set_fault(why: CheckFault) -> Fault
         CheckFault::Limit { what, count } => Fault::Limit { what, count },
         CheckFault::OutOfMemory => Fault::Memory,
     }
-}
-
-fn counts_text(alloc: Global, set: &TraceSet) -> Result<Vec<u8>, AllocError>
-    requires { IsChecked set.now }
-    ensures { IfOk result (λ text. text.items ≡ ok_text set.now) }
-{
-    let mut out = Vec::new(alloc);
-    put_traces(&mut out, set)?;
-    put_operations(&mut out, set)?;
-    put_weight(&mut out, set)?;
-    Ok(out)
-}
-
-fn put_traces(out: &mut Vec<u8>, set: &TraceSet) -> Result<(), AllocError>
-    ensures { OnOk result (out.new.items ≡ out.old.items ++ traces_text set.now) }
-{
-    put(out, b"ok traces ")?;
-    put_number(out, set.traces.items().len() as u64)
-}
-
-fn put_operations(out: &mut Vec<u8>, set: &TraceSet) -> Result<(), AllocError>
-    requires { IsInRange set.now }
-    ensures { OnOk result (out.new.items ≡ out.old.items ++ operations_text set.now) }
-{
-    put(out, b" operations ")?;
-    put_number(out, operations_of(set))
-}
-
-fn put_weight(out: &mut Vec<u8>, set: &TraceSet) -> Result<(), AllocError>
-    requires { IsChecked set.now }
-    ensures { OnOk result (out.new.items ≡ out.old.items ++ weight_text set.now) }
-{
-    put(out, b" weight ")?;
-    put_number(out, weight(set))?;
-    put(out, b"\n")
-}
-
-// How many operations the traces have.
-fn operations_of(set: &TraceSet) -> u64
-    requires { IsInRange set.now }
-    ensures { result ≡ operations_of set.now }
-{
-    let traces = set.traces.items();
-    let mut total = 0u64;
-    for trace in traces {
-        total += trace.ops.items().len() as u64;
-    }
-    total
 }

@@ -7,7 +7,7 @@ ghost use Rattle.tj_app.specs.Asking.{IsNoForm};
 ghost use Rattle.tj_app.specs.Refusing.{fault_text, status_of, Says};
 ghost use Rattle.tj_app.specs.Top.{Done, Answers, Causes, IsTextFor, IsRefusedBy, IsInput, IsRead, Refuses};
 
-use crate::checking::counts;
+use crate::counting::counts;
 use crate::ending::Status;
 use crate::refusal::{Fault, fault_line};
 use crate::running::run_text;
@@ -19,7 +19,7 @@ use trace_ops::What;
 const LIMIT: usize = 16_777_216;
 
 /// Does what the words ask for. `check` reads an input from the source, and writes the counts of the set of traces that
-/// it stands for to the sink; what stands behind its `%session` line is not read. `run` writes an image of the set's
+/// it stands for to the sink; its session's lines are read as those of `run` are. `run` writes an image of the set's
 /// loops and what was seen of the session over it. Of the other forms `opt`, `image` and `gen` aren't built. A refused
 /// input has one line, which is all that is written. First the words are judged, then the source's reads and the
 /// input's length, then its lines, whether the set is well formed, its weight, the session's lines, and at last what

@@ -3,6 +3,7 @@
 
 mod checking;
 mod command;
+mod counting;
 mod ending;
 mod image_text;
 mod laws;

@@ -3,7 +3,7 @@ ghost use Rattle.std.specs.Prelude.{◌≡◌, ◌≤◌, [], Ok, length, MatchR
 ghost use Rattle.trace_ops.specs.InRange.{IsInRange};
 ghost use Rattle.trace_text.specs.Sections.{session_part};
 ghost use Rattle.session_text.specs.Fits.{FitsSet};
-ghost use Rattle.tj_app.specs.Telling.{session_in, session_fault, IsRefusedSession, IsUntold, IsBuilt};
+ghost use Rattle.tj_app.specs.Telling.{session_in, session_fault, Tells, IsRefusedSession, IsUnread, IsUntold, IsBuilt};
 
 use crate::checking::checked_set;
 use crate::refusal::Fault;
@@ -18,20 +18,29 @@ use trace_text::session_part;
 
 /// A well-formed set, and a session over it.
 #[derive(Drop)]
-pub struct Usable {
+pub struct Told {
     pub checked: Checked,
     pub session: SessionText,
 }
 
-/// The set and the session of an input that a command can use, or why there is none.
-pub fn read_usable(alloc: Global, command: Command, bytes: &[u8]) -> Result<Usable, Fault>
+/// The set and the session of an input, or why there is none.
+pub fn read_told(alloc: Global, bytes: &[u8]) -> Result<Told, Fault>
     requires { length bytes.now ≤ 16777216 }
-    ensures { MatchResult result (λ t. IsBuilt command bytes.now t.checked t.session × FitsSet t.checked t.session) (IsUntold command bytes.now) }
+    ensures { MatchResult result (λ t. Tells bytes.now t.checked t.session × FitsSet t.checked t.session) (IsUnread bytes.now) }
 {
     let checked = checked_set(alloc, bytes)?;
     let session = session_over(alloc, bytes, checked.set())?;
-    match first_need(command, checked.set(), &session) {
-        None => Ok(Usable { checked, session }),
+    Ok(Told { checked, session })
+}
+
+/// The set and the session of an input that a command can use, or why there is none.
+pub fn read_usable(alloc: Global, command: Command, bytes: &[u8]) -> Result<Told, Fault>
+    requires { length bytes.now ≤ 16777216 }
+    ensures { MatchResult result (λ t. IsBuilt command bytes.now t.checked t.session × FitsSet t.checked t.session) (IsUntold command bytes.now) }
+{
+    let told = read_told(alloc, bytes)?;
+    match first_need(command, told.checked.set(), &told.session) {
+        None => Ok(told),
         Some(what) => Err(Fault::NotBuilt { what: what.name() }),
     }
 }

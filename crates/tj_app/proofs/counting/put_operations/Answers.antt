@@ -1,6 +1,6 @@
 use Rattle.std.proofs.Common.{◌++◌, ap, ◌∙◌, append_assoc, codes, decimal}
 use Rattle.lists.proofs.Results.{on_ok}
-use Rattle.tj_app.proofs.checking.put_operations.Goals as goal
+use Rattle.tj_app.proofs.counting.put_operations.Goals as goal
 
 pub returns : goal.returns
 returns c =

@@ -1,7 +1,7 @@
 use Rattle.std.proofs.Common.{◌≡◌, ◌≤◌, ◌+◌, ◌*◌, drop, length, sum_by}
 use Rattle.trace_ops.specs.declared.trace.Trace.{Trace}
-use Rattle.tj_app.specs.Checking.{operations_of}
-use Rattle.tj_app.proofs.checking.operations_of.Given as goal
+use Rattle.tj_app.specs.Counting.{operations_of}
+use Rattle.tj_app.proofs.counting.operations_of.Given as goal
 
 abbrev pub invariant-loop-trace : goal.invariant-loop-trace
 invariant-loop-trace l =

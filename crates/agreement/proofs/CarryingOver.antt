@@ -1,8 +1,7 @@
 -- What recorded boxes tell, told of those of a piece.
-use Rattle.std.proofs.Common.{◌≡◌, ℕ, ◌<◌, Bool, true, false, cond, Option, Some, None, List, [], ◌∷◌, length, slice_get, refl, sym, ap, ◌∙◌, subst}
+use Rattle.std.proofs.Common.{◌≡◌, ℕ, true, cond, Option, Some, None, List, [], ◌∷◌, length, slice_get, refl, sym, ap, ◌∙◌, subst}
 use Rattle.std.specs.List.{AllZip}
 use Rattle.lists.proofs.Options.{some_same, none_some}
-use Rattle.trace_ops.specs.declared.code.OpCode.{OpCode}
 use Rattle.trace_ops.specs.declared.trace.BoxId.{BoxId}
 use Rattle.trace_ops.specs.declared.trace.Arg.{Arg}
 use Rattle.trace_ops.specs.declared.trace.Arg.TheVariants as arg
@@ -22,7 +21,7 @@ use Rattle.opt_meaning.specs.Agrees.{Facts, Place, MapsAt, ArgIs, NameIs, FactHo
 use Rattle.agreement.specs.Telling.{recorded_place, IsNamed, IsNamedFact, FactsCarryOver}
 use Rattle.agreement.proofs.Folding.{Pair, int, null, obj, OneToOne, pair_of, folds_alike}
 use Rattle.agreement.proofs.Further.{first_parts}
-use Rattle.agreement.proofs.Reading.{Twins, twins}
+use Rattle.agreement.proofs.Reading.{twins}
 
 -- the value of the piece for a recorded one
 of_int : (m : ℕ → Option ℕ) (u : Value) (z : _) → Maps m u (v.Int z) → u ≡ v.Int z

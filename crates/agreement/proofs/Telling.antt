@@ -1,7 +1,6 @@
 -- What a leg tells of the operations that it has passed.
-use Rattle.std.proofs.Common.{◌≡◌, ◌≢◌, ◌⊎◌, inl, inr, ℕ, zero, suc, ℤ, pos, Bool, true, false, cond, Option, Some, None, List, [], ◌∷◌, slice_get, refl, sym, ap, ◌∙◌, subst}
+use Rattle.std.proofs.Common.{◌≡◌, ◌≢◌, ◌⊎◌, inl, inr, ℕ, ℤ, pos, Bool, true, false, cond, Option, Some, None, List, [], ◌∷◌, slice_get, refl, sym, ap, ◌∙◌}
 use Rattle.std.specs.Prelude.{not}
-use Rattle.std.specs.Ordering.{int_eq}
 use Rattle.std.proofs.lemmas.Bool.{eqb-true}
 use Rattle.std.proofs.lemmas.Bool.Decides.{Decides-int_eq}
 use Rattle.lists.proofs.Options.{some_same, none_some}
@@ -10,29 +9,25 @@ use Rattle.trace_ops.specs.declared.code.OpCode.TheVariants as code
 use Rattle.trace_ops.specs.declared.facts.Part.{Part}
 use Rattle.trace_ops.specs.declared.facts.Part.TheVariants as part
 use Rattle.trace_ops.specs.declared.facts.Cites.{Cites}
-use Rattle.trace_ops.specs.declared.facts.Cites.TheVariants as cites
 use Rattle.trace_ops.specs.declared.trace.BoxId.{BoxId}
 use Rattle.trace_ops.specs.declared.trace.Arg.{Arg}
 use Rattle.trace_ops.specs.declared.trace.Arg.TheVariants as arg
 use Rattle.trace_ops.specs.declared.trace.Descr.{Descr}
 use Rattle.trace_ops.specs.declared.trace.Op.{Op}
 use Rattle.trace_ops.specs.declared.table.Table.{Table}
-use Rattle.trace_ops.specs.declared.piece.Fact.TheVariants as fact
 use Rattle.trace_ops.specs.Classes.{is_pure, pure_part, is_plain, plain}
 use Rattle.trace_ops.specs.Facts.{part_of, cites_of}
 use Rattle.trace_meaning.specs.declared.value.Value.{Value}
 use Rattle.trace_meaning.specs.declared.value.Value.TheVariants as v
 use Rattle.trace_meaning.specs.declared.value.Object.{Object}
 use Rattle.trace_meaning.specs.World.{World}
-use Rattle.trace_meaning.specs.Values.{same_reference}
-use Rattle.trace_meaning.specs.Boxes.{Boxes, value_in, bind, arg_value, has_value, with_first, all_values}
+use Rattle.trace_meaning.specs.Boxes.{value_in, arg_value, has_value, with_first, all_values}
 use Rattle.trace_meaning.specs.Folding.{fold}
-use Rattle.trace_meaning.specs.Passing.{is_zero, is_zero_word, are_equal, is_null, class_in, object_has_class, has_class, has_class_or_null, negated, passes}
-use Rattle.trace_meaning.specs.Performing.{Done, Gave, value_done, perform}
+use Rattle.trace_meaning.specs.Passing.{is_zero, is_zero_word, are_equal, is_null, object_has_class, has_class, has_class_or_null, negated, passes}
+use Rattle.trace_meaning.specs.Performing.{Gave, value_done, perform}
 use Rattle.trace_meaning.specs.Recorded.{Rec, values_of}
-use Rattle.opt_meaning.specs.Agrees.{FactHolds}
 use Rattle.agreement.specs.Growing.{Extends}
-use Rattle.agreement.specs.Telling.{recorded_place, HasNow, IsObject, IsOfSize, Is, Tells}
+use Rattle.agreement.specs.Telling.{HasNow, IsOfSize, Is, Tells}
 use Rattle.agreement.proofs.Further.{KindsKept, arg_value-extends, all_values-extends, first_parts}
 use Rattle.agreement.proofs.Guarding.{is_of}
 

@@ -1,5 +1,5 @@
 -- Legs tell of all operations that they have passed.
-use Rattle.std.proofs.Common.{◌≡◌, ◌⊎◌, inl, inr, ℕ, zero, suc, ◌+◌, Bool, true, false, Option, Some, None, List, [], ◌∷◌, ◌++◌, length, map, take, drop, slice_get, refl, sym, ap, ◌∙◌, subst, append_assoc, arith}
+use Rattle.std.proofs.Common.{◌≡◌, ℕ, zero, suc, ◌+◌, Bool, true, false, Option, Some, None, List, [], ◌∷◌, ◌++◌, length, map, take, drop, slice_get, refl, sym, ap, ◌∙◌, subst, append_assoc, arith}
 use Rattle.std.specs.List.{All, Contains, AllByRecursion, flat_map}
 use Rattle.std.specs.Option.{option_to_list}
 use Rattle.std.proofs.Math.Seq.{take-append_seam}
@@ -19,20 +19,19 @@ use Rattle.trace_ops.specs.declared.trace.Trace.{Trace}
 use Rattle.trace_ops.specs.declared.trace.TraceSet.{TraceSet}
 use Rattle.trace_ops.specs.Classes.{is_plain, plain}
 use Rattle.trace_ops.specs.Facts.{part_of}
-use Rattle.trace_ops.specs.Rules.{known_before, GivesNewBox, IsEndOnlyAtEnd, ends}
+use Rattle.trace_ops.specs.Rules.{known_before, GivesNewBox, ends}
 use Rattle.trace_ops.specs.WellFormed.{IsWellFormed}
 use Rattle.trace_meaning.specs.declared.value.Value.{Value}
-use Rattle.trace_meaning.specs.declared.value.Object.{Object}
 use Rattle.trace_meaning.specs.World.{World}
 use Rattle.trace_meaning.specs.Boxes.{Boxes, BindingLaws, value_in, bind, bound_to}
 use Rattle.trace_meaning.specs.Growing.{extent, extents, GrowsIn}
 use Rattle.trace_meaning.specs.Laws.{RecordedRuns}
-use Rattle.trace_meaning.specs.Legs.{Leave, Fails, Jumps, Finishes, Waits, Misfits, Wrong, Turn, On, Off, go_on, drive, then_turn, drive_to}
+use Rattle.trace_meaning.specs.Legs.{Leave, Jumps, Turn, On, Off, go_on, drive, then_turn, drive_to}
 use Rattle.trace_meaning.specs.Passing.{passes}
 use Rattle.trace_meaning.specs.Performing.{Done, Gave, Bad, Waited, Misfitted, perform}
 use Rattle.trace_meaning.specs.Recorded.{Rec, recorded, recorded_result, recorded_plain, recorded_failure, recorded_guard, recorded_part, recorded_with, recorded_step, values_of, slots_of, ops_of, inputs_of, ops_at, begin_at}
 use Rattle.agreement.specs.Growing.{Extends}
-use Rattle.agreement.specs.Telling.{Tells, LegsTell, JumpTells, JumpsTell}
+use Rattle.agreement.specs.Telling.{Tells, LegsTell, JumpsTell}
 use Rattle.agreement.proofs.Further.{KindsKept, kinds-same}
 use Rattle.agreement.proofs.Telling.{guard_told, plain_told, nothing_told, tells-later}
 
@@ -225,8 +224,7 @@ new_from one rule before [] e = tt
 new_from one rule before (op ∷ ops) e =
     let at : slice_get one.ops (length before) ≡ Some op = ap (λ l. slice_get l (length before)) e ∙ get_middle before op ops in
     let taken : take (length before) one.ops ≡ before = ap (take (length before)) e ∙ take-append_seam before (op ∷ ops) in
-    let known : known_before one (length before) ≡ one.inputs ++ results before = ap (λ l. one.inputs ++ results l) taken in
-    (
+    let known : known_before one (length before) ≡ one.inputs ++ results before = ap (λ l. one.inputs ++ results l) taken in (
       λ b gives. subst (λ l. ¬ Contains l b) known (in_option b op.result (λ c. ¬ Contains (known_before one (length before)) c) gives (rule (length before) op at)),
       subst (λ l. AreNew l ops) (sym (pushed one.inputs before op)) (new_from one rule (before ++ op ∷ []) ops (e ∙ sym (append_assoc before (op ∷ []) ops))),
     )

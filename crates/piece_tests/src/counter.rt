@@ -5,61 +5,11 @@ use crate::running::*;
 use std::alloc::{AllocError, Global};
 use std::test::*;
 use trace_meaning::Value;
-use trace_ops::{Arg, BoxId, Descr, Half, Op, OpCode, OptOp, Piece, Snapshot, TraceSet, Val};
+use trace_ops::{Arg, BoxId, Descr, Half, OpCode, OptOp, Piece, Snapshot, TraceSet, Val};
 
-fn read(alloc: Global) -> Result<Op, AllocError> {
-    op(
-        alloc,
-        OpCode::GetfieldGcI,
-        Some(integer(2)),
-        &[p(0)],
-        Descr::Field(NUMBER),
-    )
-}
-
-fn store(alloc: Global) -> Result<Op, AllocError> {
-    op(
-        alloc,
-        OpCode::SetfieldGc,
-        None,
-        &[p(4), i(3)],
-        Descr::Field(NUMBER),
-    )
-}
-
-// One more, in a new cell.
-fn count(alloc: Global, ops: &mut Vec<Op>) -> Result<(), AllocError> {
-    let sum = [i(2), Arg::Const(1)];
-    let made = Some(reference(4));
-    ops.push(guard(
-        alloc,
-        OpCode::GuardClass,
-        &[p(0), Arg::Class(CELL)],
-        &[p(0), i(1)],
-    )?)?;
-    ops.push(read(alloc)?)?;
-    ops.push(op(alloc, OpCode::IntAdd, Some(integer(3)), &sum, Descr::No)?)?;
-    ops.push(op(alloc, OpCode::NewWithVtable, made, &[], Descr::Size(CELL))?)?;
-    ops.push(store(alloc)?)?;
-    Ok(())
-}
-
-// As long as it is less than the limit.
-fn repeat(alloc: Global, ops: &mut Vec<Op>) -> Result<(), AllocError> {
-    let sides = [i(3), i(1)];
-    let on = [p(4), i(1)];
-    ops.push(op(alloc, OpCode::IntLt, Some(integer(5)), &sides, Descr::No)?)?;
-    ops.push(guard(alloc, OpCode::GuardTrue, &[i(5)], &on)?)?;
-    ops.push(op(alloc, OpCode::Jump, None, &on, Descr::No)?)?;
-    Ok(())
-}
-
-fn trace(alloc: Global) -> Result<TraceSet, AllocError> {
-    let mut ops = Vec::new(alloc);
-    count(alloc, &mut ops)?;
-    repeat(alloc, &mut ops)?;
+fn set(alloc: Global) -> Result<TraceSet, AllocError> {
     let table = table(alloc, root_and_zero(alloc)?)?;
-    loop_alone(alloc, table, &[reference(0), integer(1)], ops)
+    loop_alone(alloc, table)
 }
 
 // The frame has the cell as it came in.
@@ -142,7 +92,7 @@ fn a_counter_makes_its_last_cell_alone(rt: HostRuntime) -> Result<(), AllocError
     let inputs = [Value::Obj(1), Value::Int(100)];
     let mut run = optimised(
         alloc,
-        trace(alloc)?,
+        set(alloc)?,
         pieces(alloc)?,
         &inputs,
         Vec::new(alloc),
@@ -155,18 +105,5 @@ fn a_counter_makes_its_last_cell_alone(rt: HostRuntime) -> Result<(), AllocError
     assert!(rt; exited_with(run.state(), 1, Value::Obj(2)));
     assert!(rt; run.store().objects.items().len() == 3);
     assert!(rt; holds(run.store(), 2, 0, Value::Int(100)));
-    Ok(())
-}
-
-#[test]
-fn its_trace_makes_a_cell_a_round(rt: HostRuntime) -> Result<(), AllocError> {
-    let alloc = rt.alloc();
-    let inputs = [Value::Obj(1), Value::Int(100)];
-    let mut run = recorded(alloc, trace(alloc)?, &inputs, Vec::new(alloc), &[])?;
-    run_recorded(&mut run, 798)?;
-    assert!(rt; is_going(run.state()));
-    run_recorded(&mut run, 1)?;
-    assert!(rt; exited_with(run.state(), 1, Value::Obj(101)));
-    assert!(rt; holds(run.store(), 101, 0, Value::Int(100)));
     Ok(())
 }

@@ -5,42 +5,11 @@ use crate::running::*;
 use std::alloc::{AllocError, Global};
 use std::test::*;
 use trace_meaning::{Answer, CallEvent, Give, Store, Value};
-use trace_ops::{Arg, BoxId, Descr, Half, List, Op, OpCode, OptOp, Piece, TraceSet};
+use trace_ops::{Arg, BoxId, Descr, Half, List, OpCode, OptOp, Piece, TraceSet};
 
-fn set_with(alloc: Global, ops: Vec<Op>) -> Result<TraceSet, AllocError> {
+fn set(alloc: Global) -> Result<TraceSet, AllocError> {
     let table = table(alloc, Vec::new(alloc))?;
-    loop_alone(alloc, table, &[integer(0)], ops)
-}
-
-fn store(alloc: Global, value: Arg, field: u32) -> Result<Op, AllocError> {
-    op(
-        alloc,
-        OpCode::SetfieldGc,
-        None,
-        &[p(1), value],
-        Descr::Field(field),
-    )
-}
-
-fn call(alloc: Global) -> Result<Op, AllocError> {
-    op(
-        alloc,
-        OpCode::CallN,
-        None,
-        &[Arg::Func(0), p(1)],
-        Descr::Call(0),
-    )
-}
-
-fn trace(alloc: Global) -> Result<TraceSet, AllocError> {
-    let mut ops = Vec::new(alloc);
-    let made: BoxId = reference(1);
-    ops.push(op(alloc, OpCode::New, Some(made), &[], Descr::Size(NODE))?)?;
-    ops.push(store(alloc, p(1), NEXT)?)?;
-    ops.push(store(alloc, i(0), X)?)?;
-    ops.push(call(alloc)?)?;
-    ops.push(op(alloc, OpCode::Finish, None, &[p(1)], Descr::No)?)?;
-    set_with(alloc, ops)
+    loop_alone(alloc, table)
 }
 
 fn stored(alloc: Global, value: Arg, field: u32) -> Result<OptOp, AllocError> {
@@ -108,7 +77,7 @@ fn a_cyclic_node_is_made_for_a_call(rt: HostRuntime) -> Result<(), AllocError> {
     let alloc = rt.alloc();
     let mut run = optimised(
         alloc,
-        trace(alloc)?,
+        set(alloc)?,
         pieces(alloc)?,
         &[Value::Int(7)],
         nothing(alloc)?,
@@ -119,16 +88,5 @@ fn a_cyclic_node_is_made_for_a_call(rt: HostRuntime) -> Result<(), AllocError> {
     assert!(rt; sees_the_node(run.calls()));
     assert!(rt; names_itself(run.store()));
     assert!(rt; has_cost(&run, (5, 32, 0, 2)));
-    Ok(())
-}
-
-#[test]
-fn its_trace_does_the_same(rt: HostRuntime) -> Result<(), AllocError> {
-    let alloc = rt.alloc();
-    let mut run = recorded(alloc, trace(alloc)?, &[Value::Int(7)], nothing(alloc)?, &[])?;
-    run_recorded(&mut run, 10)?;
-    assert!(rt; finished_with(run.state(), Value::Obj(0)));
-    assert!(rt; sees_the_node(run.calls()));
-    assert!(rt; names_itself(run.store()));
     Ok(())
 }

@@ -6,7 +6,7 @@ use crate::running::*;
 use opt_meaning::OptRun;
 use std::alloc::{AllocError, Global};
 use std::test::*;
-use trace_meaning::{Answer, CallEvent, Give, RecRun, Store, Value};
+use trace_meaning::{Answer, CallEvent, Give, Store, Value};
 use trace_ops::List;
 
 // The host answers five calls with 0.
@@ -40,10 +40,6 @@ fn optimised_run(alloc: Global, cuts: &[(u32, u64)]) -> Result<OptRun, AllocErro
         zeros(alloc)?,
         cuts,
     )
-}
-
-fn recorded_run(alloc: Global, cuts: &[(u32, u64)]) -> Result<RecRun, AllocError> {
-    recorded(alloc, set(alloc)?, &inputs(), zeros(alloc)?, cuts)
 }
 
 // Call k was of this number.
@@ -81,18 +77,6 @@ fn a_loop_with_two_bridges_sums_even_numbers(rt: HostRuntime) -> Result<(), Allo
     assert!(rt; ticks(run.calls()));
     assert!(rt; counted(run.store(), 5));
     assert!(rt; has_cost(&run, (183, 160, 40, 15)));
-    Ok(())
-}
-
-#[test]
-fn its_traces_sum_them_too(rt: HostRuntime) -> Result<(), AllocError> {
-    let mut run = recorded_run(rt.alloc(), &[(1, 0), (2, 0)])?;
-    run_recorded(&mut run, 292)?;
-    assert!(rt; is_going(run.state()));
-    run_recorded(&mut run, 1)?;
-    assert!(rt; finished_with(run.state(), Value::Int(20)));
-    assert!(rt; ticks(run.calls()));
-    assert!(rt; counted(run.store(), 5));
     Ok(())
 }
 

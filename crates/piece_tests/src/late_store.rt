@@ -5,29 +5,12 @@ use crate::running::*;
 use opt_meaning::OptRun;
 use std::alloc::{AllocError, Global};
 use std::test::*;
-use trace_meaning::{RecRun, Store, Value};
-use trace_ops::{Arg, Descr, Half, Op, OpCode, OptOp, Piece, Snapshot, TraceSet, Val};
+use trace_meaning::{Store, Value};
+use trace_ops::{Arg, Descr, Half, OpCode, OptOp, Piece, Snapshot, TraceSet, Val};
 
-fn store(alloc: Global, base: Arg, value: Arg, field: u32) -> Result<Op, AllocError> {
-    op(
-        alloc,
-        OpCode::SetfieldGc,
-        None,
-        &[base, value],
-        Descr::Field(field),
-    )
-}
-
-fn trace(alloc: Global) -> Result<TraceSet, AllocError> {
-    let mut ops = Vec::new(alloc);
-    let made = Some(reference(2));
-    ops.push(op(alloc, OpCode::New, made, &[], Descr::Size(NODE))?)?;
-    ops.push(store(alloc, p(2), i(1), X)?)?;
-    ops.push(store(alloc, p(0), p(2), NEXT)?)?;
-    ops.push(guard(alloc, OpCode::GuardTrue, &[i(1)], &[p(0)])?)?;
-    ops.push(op(alloc, OpCode::Finish, None, &[i(1)], Descr::No)?)?;
+fn set(alloc: Global) -> Result<TraceSet, AllocError> {
     let table = table(alloc, root_and_zero(alloc)?)?;
-    loop_alone(alloc, table, &[reference(0), integer(1)], ops)
+    loop_alone(alloc, table)
 }
 
 // The new node is virtual, and its store is pending.
@@ -79,7 +62,7 @@ fn ended(alloc: Global, x: i64) -> Result<OptRun, AllocError> {
     let inputs = [Value::Obj(0), Value::Int(x)];
     let mut run = optimised(
         alloc,
-        trace(alloc)?,
+        set(alloc)?,
         pieces(alloc)?,
         &inputs,
         Vec::new(alloc),
@@ -89,19 +72,9 @@ fn ended(alloc: Global, x: i64) -> Result<OptRun, AllocError> {
     Ok(run)
 }
 
-fn recorded_end(alloc: Global, x: i64) -> Result<RecRun, AllocError> {
-    let inputs = [Value::Obj(0), Value::Int(x)];
-    let mut run = recorded(alloc, trace(alloc)?, &inputs, Vec::new(alloc), &[])?;
-    run_recorded(&mut run, 10)?;
-    Ok(run)
-}
-
 #[test]
 fn a_failing_guard_rebuilds_the_node_and_its_store(rt: HostRuntime) -> Result<(), AllocError> {
     let run = ended(rt.alloc(), 0)?;
-    assert!(rt; exited_with(run.state(), 0, Value::Obj(0)));
-    assert!(rt; is_linked(run.store(), 0));
-    let run = recorded_end(rt.alloc(), 0)?;
     assert!(rt; exited_with(run.state(), 0, Value::Obj(0)));
     assert!(rt; is_linked(run.store(), 0));
     Ok(())
@@ -113,8 +86,5 @@ fn a_passing_guard_goes_on_to_the_store(rt: HostRuntime) -> Result<(), AllocErro
     assert!(rt; finished_with(run.state(), Value::Int(5)));
     assert!(rt; is_linked(run.store(), 5));
     assert!(rt; has_cost(&run, (5, 32, 0, 2)));
-    let run = recorded_end(rt.alloc(), 5)?;
-    assert!(rt; finished_with(run.state(), Value::Int(5)));
-    assert!(rt; is_linked(run.store(), 5));
     Ok(())
 }

@@ -15,5 +15,4 @@ mod interpreter_runs;
 mod late_store;
 #[cfg(test)]
 mod making;
-#[cfg(test)]
-mod running;
+pub mod running;

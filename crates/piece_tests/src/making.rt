@@ -2,9 +2,9 @@
 
 use std::alloc::{AllocError, Global};
 use trace_ops::{
-    Arg, BoxId, CallRow, Descr, FieldRow, Frame, Half, Initial, Kind, List, Op, OpCode, OptFrame,
-    OptOp, Origin, Pending, Piece, PieceId, PrebuiltRow, Shape, ShapeOf, SizeRow, Snapshot, Spot,
-    Table, Text, Trace, TraceSet, Val,
+    Arg, BoxId, CallRow, Descr, FieldRow, Half, Initial, Kind, List, OpCode, OptFrame, OptOp,
+    Origin, Pending, Piece, PieceId, PrebuiltRow, Shape, ShapeOf, SizeRow, Snapshot, Spot, Table,
+    Text, Trace, TraceSet, Val,
 };
 
 // Rows of the table: a node has x, y and next, a cell has one number.
@@ -116,21 +116,20 @@ pub fn table(alloc: Global, prebuilts: Vec<PrebuiltRow>) -> Result<Table, AllocE
     })
 }
 
-// A set of one loop.
-pub fn loop_alone(
-    alloc: Global,
-    table: Table,
-    inputs: &[BoxId],
-    ops: Vec<Op>,
-) -> Result<TraceSet, AllocError> {
-    let inputs = Vec::from_slice(alloc, inputs)?;
-    let trace = Trace {
-        name: Text::new(b"L"),
-        origin: Origin::Loop,
+// A trace by its name and where it comes from: a run of pieces looks at no more of it.
+pub fn trace(alloc: Global, name: Text, origin: Origin) -> Trace {
+    Trace {
+        name,
+        origin,
         label: false,
-        inputs: List::of(inputs),
-        ops: List::of(ops),
-    };
+        inputs: List::of(Vec::new(alloc)),
+        ops: List::of(Vec::new(alloc)),
+    }
+}
+
+// A set of one loop.
+pub fn loop_alone(alloc: Global, table: Table) -> Result<TraceSet, AllocError> {
+    let trace = trace(alloc, Text::new(b"L"), Origin::Loop);
     let traces = vec![in alloc; trace]?;
     Ok(TraceSet {
         table,
@@ -158,43 +157,6 @@ pub fn i(number: u32) -> Arg {
 
 pub fn p(number: u32) -> Arg {
     Arg::Of(reference(number))
-}
-
-// A recorded operation that isn't a guard.
-pub fn op(
-    alloc: Global,
-    code: OpCode,
-    made: Option<BoxId>,
-    args: &[Arg],
-    descr: Descr,
-) -> Result<Op, AllocError> {
-    let args = Vec::from_slice(alloc, args)?;
-    Ok(Op {
-        code,
-        result: made,
-        args: List::of(args),
-        descr,
-        snapshot: List::of(Vec::new(alloc)),
-    })
-}
-
-// A recorded guard with one frame.
-pub fn guard(alloc: Global, code: OpCode, args: &[Arg], slots: &[Arg]) -> Result<Op, AllocError> {
-    let args = Vec::from_slice(alloc, args)?;
-    let slots = Vec::from_slice(alloc, slots)?;
-    let frame = Frame {
-        name: Text::new(b"L"),
-        pc: 0,
-        slots: List::of(slots),
-    };
-    let frames = vec![in alloc; frame]?;
-    Ok(Op {
-        code,
-        result: None,
-        args: List::of(args),
-        descr: Descr::No,
-        snapshot: List::of(frames),
-    })
 }
 
 // An operation of a piece.

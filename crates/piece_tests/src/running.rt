@@ -1,12 +1,14 @@
-//! Runs of traces and of their pieces, and what is looked at.
-ghost use Rattle.std.specs.Prelude.{◌≡◌, ◌<◌, ◌^◌, length, IsTrue, IfSome};
+//! Runs of pieces, and what is looked at.
+ghost use Rattle.std.specs.Prelude.{◌≡◌, ◌<◌, ◌≤◌, ◌^◌, length, IsTrue, IfSome};
+ghost use Rattle.std.specs.List.{All};
+ghost use Rattle.trace_meaning.specs.declared.value.Object.{Object};
 ghost use Rattle.trace_meaning.specs.Starting.{IsSmall};
 ghost use Rattle.opt_meaning.specs.Observed.{pieces_world, pieces_bytes};
 ghost use Rattle.piece_tests.specs.Rooms.{has_exited};
 
 use opt_meaning::OptRun;
 use std::alloc::{AllocError, Global};
-use trace_meaning::{Answer, RecFrame, RecRun, RecState, Store, Value};
+use trace_meaning::{Answer, Object, RecFrame, RecState, Store, Value};
 use trace_ops::{Piece, TraceSet};
 
 // The set, if it keeps within the limits.
@@ -22,23 +24,7 @@ fn small(set: TraceSet) -> Option<TraceSet>
     if few && short { Some(set) } else { None }
 }
 
-// A run of the first trace.
-pub fn recorded(
-    alloc: Global,
-    set: TraceSet,
-    inputs: &[Value],
-    answers: Vec<Answer>,
-    cuts: &[(u32, u64)],
-) -> Result<RecRun, AllocError> {
-    let Some(set) = small(set) else {
-        return Err(AllocError);
-    };
-    let inputs = Vec::from_slice(alloc, inputs)?;
-    let cuts = Vec::from_slice(alloc, cuts)?;
-    RecRun::new(alloc, &set, 0, inputs, answers, cuts)
-}
-
-// A run of its pieces.
+/// A run of the pieces of a set from its first trace; too large a set counts as want of memory.
 pub fn optimised(
     alloc: Global,
     set: TraceSet,
@@ -55,14 +41,6 @@ pub fn optimised(
     OptRun::new(alloc, &set, pieces, 0, inputs, answers, cuts)
 }
 
-// One operation; numbers that go past their limits count as want of memory.
-fn step_recorded(run: &mut RecRun) -> Result<(), AllocError> {
-    if run.store().objects.items().len() >= 1000 || run.calls().len() >= 1000 {
-        return Err(AllocError);
-    }
-    run.step()
-}
-
 pub fn has_rebuilt(state: &RecState) -> bool
     ensures { result ≡ has_exited state.now }
 {
@@ -70,6 +48,12 @@ pub fn has_rebuilt(state: &RecState) -> bool
         RecState::Exited { .. } => true,
         _ => false,
     }
+}
+
+fn are_short(objects: &[Object]) -> bool
+    ensures { IsTrue result → All (λ (o : Object). length o.parts ≤ 1000) objects.now }
+{
+    objects.iter().all(|o| o.parts.items().len() <= 1000)
 }
 
 // Nothing is rebuilt, and all that there is can be counted.
@@ -82,10 +66,13 @@ fn is_small(run: &OptRun) -> bool
         return false;
     }
     let objects = run.store().objects.items();
-    let short = objects.iter().all(|o| o.parts.items().len() <= 1000);
-    short && objects.len() < 1000 && run.calls().len() < 1000
+    if objects.len() >= 1000 || run.calls().len() >= 1000 {
+        return false;
+    }
+    are_short(objects)
 }
 
+// One operation; numbers that go past their limits count as want of memory.
 fn step_optimised(run: &mut OptRun) -> Result<(), AllocError> {
     if is_small(run) {
         return run.step();
@@ -98,13 +85,6 @@ fn step_optimised(run: &mut OptRun) -> Result<(), AllocError> {
 }
 
 // At most n operations.
-pub fn run_recorded(run: &mut RecRun, n: usize) -> Result<(), AllocError> {
-    for _ in 0..n {
-        step_recorded(run)?;
-    }
-    Ok(())
-}
-
 pub fn run_optimised(run: &mut OptRun, n: usize) -> Result<(), AllocError> {
     for _ in 0..n {
         step_optimised(run)?;

@@ -7,7 +7,7 @@ use Rattle.trace_meaning.specs.declared.value.Value.{Value}
 use Rattle.trace_meaning.specs.declared.value.Object.{Object}
 use Rattle.trace_meaning.specs.World.{World}
 use Rattle.trace_meaning.specs.Objects.{with_part, with_new}
-use Rattle.trace_meaning.specs.Growing.{extent, extents}
+use Rattle.trace_meaning.specs.Growing.{extent}
 use Rattle.opt_meaning.specs.Agrees.{HasPrebuilts}
 use Rattle.agreement.proofs.Wrote.{stored}
 

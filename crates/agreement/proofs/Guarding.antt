@@ -97,7 +97,7 @@ passes_alike t known boxes at h operation args others us ys same maps over = ali
 
 -- What a passed guard tells
 
-is_of : (size : ℕ) (of : ShapeOf) → is_structure_of size of ≡ true → of ≡ shape.Size size
+pub is_of : (size : ℕ) (of : ShapeOf) → is_structure_of size of ≡ true → of ≡ shape.Size size
 is_of size (shape.Size s) e = ap shape.Size (eqb-true s size e)
 is_of size (shape.Array a) e = absurd (cc)
 

@@ -20,3 +20,6 @@ pub mod Renaming
 pub mod Comparing
 pub mod Performs
 pub mod Spots
+pub mod Telling
+pub mod TellingLegs
+pub mod CarryingOver

@@ -9,3 +9,4 @@ pub mod Renaming
 pub mod Comparing
 pub mod Performs
 pub mod Spots
+pub mod Telling

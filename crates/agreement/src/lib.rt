@@ -2,6 +2,7 @@
 #![tactic(auto)]
 
 mod ends;
+mod legs;
 mod more;
 mod objects;
 mod reads;
@@ -9,6 +10,7 @@ mod runs;
 mod stores;
 
 pub use ends::{entry_admits, guard_admits, plain_admits, rebuilt_same};
+pub use legs::{facts_carry_over, jumps_tell, legs_tell};
 pub use more::{
     boxes_grow, calls_are_same, entry_starts, facts_change, facts_grow, folds_alike, names_grow,
     pure_agrees, renames_agree,

@@ -103,7 +103,7 @@ places_hold piece registers label places a few b =
 -- ---- boxes that live together
 
 -- where a box that is named among the defined ones stands, by its number
-stands : (piece : Piece) (b : BoxId) → AreNumbered piece → IsNamed (defined_by piece) b → (b.number < length (defined_by piece)) × (slice_get (defined_by piece) b.number ≡ Some b)
+pub stands : (piece : Piece) (b : BoxId) → AreNumbered piece → IsNamed (defined_by piece) b → (b.number < length (defined_by piece)) × (slice_get (defined_by piece) b.number ≡ Some b)
 stands piece b n h =
     let r = named_place (defined_by piece) b h in
     let e : b.number ≡ r.0 = numbered_at (defined_by piece) 0 r.0 b n r.2 ∙ omega arith in
@@ -113,7 +113,7 @@ numbers_differ : (piece : Piece) (b d : BoxId) → AreNumbered piece → IsNamed
 numbers_differ piece b d n hb hd ne e =
     ne (some_is b d (sym (stands piece b n hb).1 ∙ ap (slice_get (defined_by piece)) e ∙ (stands piece d n hd).1))
 
-all_at : (piece : Piece) (op : OptOp) (k : ℕ) (b : BoxId) → AreDefined piece → slice_get piece.ops k ≡ Some op → IsNamed (used_by op) b → IsNamed (defined_before piece k) b
+pub all_at : (piece : Piece) (op : OptOp) (k : ℕ) (b : BoxId) → AreDefined piece → slice_get piece.ops k ≡ Some op → IsNamed (used_by op) b → IsNamed (defined_before piece k) b
 all_at piece op k b d e h =
     let c = named_contains (used_by op) b h in
     contains_named (defined_before piece k) b (subst (Contains (defined_before piece k)) c.2 (d k op e c.0 b c.1))

@@ -36,3 +36,11 @@ pub mod Suiting
 pub mod Handed
 pub mod Started
 pub mod Examples
+pub mod Anys
+pub mod Passed
+pub mod Prebuilts
+pub mod Pushes
+pub mod Appends
+pub mod Needing
+pub mod Planned
+pub mod Selection

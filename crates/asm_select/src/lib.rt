@@ -1,9 +1,20 @@
 //! Instructions for the operations of optimised pieces, and what they do on the machine.
 #![tactic(auto)]
 
+mod accesses;
+mod arguments;
+mod codes;
+mod context;
+mod draft;
 mod form;
 mod laws;
+mod lone;
+mod moves;
 mod operand;
+mod plain;
+mod plan;
+mod selected;
+mod table_numbers;
 mod told;
 
 pub use laws::{
@@ -12,3 +23,4 @@ pub use laws::{
     piece_lands, places_serve, slots_are_whole, slots_stand, sound_pieces_suit, start_fits,
     stub_exits, tables_fit,
 };
+pub use selected::{Selected, select};

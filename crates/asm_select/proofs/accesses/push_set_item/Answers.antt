@@ -1,0 +1,13 @@
+use Rattle.std.proofs.Common.{◌≡◌, ◌++◌, ℕ, ℤ, OnOk, subst, sym, rules}
+use Rattle.std.specs.Int.{w64}
+use Rattle.std.proofs.lemmas.Int.{to_z-of_z}
+use Rattle.trace_ops.specs.declared.table.Table.{Table}
+use Rattle.asm_select.specs.declared.operand.Operand.TheVariants.{Imm}
+use Rattle.asm_select.specs.Chosen.{set_item_code}
+use Rattle.asm_select.proofs.accesses.push_set_item.Goals as goal
+
+pub returns-in-Imm : goal.returns-in-Imm
+returns-in-Imm c =
+    let same = to_z-of_z w64 c.in-Imm.v (search rules) in
+    subst (λ i. OnOk c.push_set_item_at.result ((t : Table) (x : ℕ) → c.push_set_item_at.new.out.items ≡ c.args.out.now.items ++ set_item_code t x c.args.a i c.args.b)) (sym c.in-Imm.is)
+    (subst (λ (z : ℤ). OnOk c.push_set_item_at.result ((t : Table) (x : ℕ) → c.push_set_item_at.new.out.items ≡ c.args.out.now.items ++ set_item_code t x c.args.a (Imm z) c.args.b)) same c.push_set_item_at.ensures)

@@ -33,6 +33,7 @@ use Rattle.opt_pass.specs.Keeping.{IsPerformed, IsTested}
 use Rattle.opt_pass.proofs.Plain.{given_by, plain_turns}
 use Rattle.opt_pass.proofs.Guards.{guard_turns, skip_turns, exit_turns}
 use Rattle.opt_pass.proofs.Ends.{jump_turns, body_turns, finish_turns}
+use Rattle.opt_pass.proofs.Prints.{stays_performed, stays_tested, prints_nothing, prints_plain, prints_guard, prints_exit, prints_jump, prints_body, prints_finish}
 use Rattle.opt_pass.specs.Laws.{Laws}
 
 pub ok_by : {T E X : Type 0} (r : Result T E) (x y : X) (Q : Type 0) → (x ≡ y → Q) → OnOk r (x ≡ y) → OnOk r Q
@@ -64,9 +65,9 @@ no_ops (x ∷ xs) = ap (λ ys. x ∷ ys) (no_ops xs)
 -- An operation
 
 plain_fields : (o : Pass) (operation : OpCode) (to : Option BoxId) (args : List Arg) (d : Descr) →
-    ((with_plain o operation to args d).ops ≡ o.ops ++ opt.Plain operation (given_by o to) args d ∷ []) × ((with_plain o operation to args d).guards ≡ o.guards) × ((with_plain o operation to args d).next ≤ o.next + 1) × ((with_plain o operation to args d).guard ≡ o.guard) × ((with_plain o operation to args d).checked ≡ is_overflowing operation) × ((with_plain o operation to args d).to ≡ o.to) × ((with_plain o operation to args d).target ≡ o.target)
-plain_fields o operation (Some b) args d = (refl, refl, omega arith, refl, refl, refl, refl)
-plain_fields o operation None args d = (refl, refl, omega arith, refl, refl, refl, refl)
+    ((with_plain o operation to args d).ops ≡ o.ops ++ opt.Plain operation (given_by o to) args d ∷ []) × ((with_plain o operation to args d).guards ≡ o.guards) × ((with_plain o operation to args d).next ≤ o.next + 1) × ((with_plain o operation to args d).guard ≡ o.guard) × ((with_plain o operation to args d).checked ≡ is_overflowing operation) × ((with_plain o operation to args d).to ≡ o.to) × ((with_plain o operation to args d).target ≡ o.target) × ((with_plain o operation to args d).ended ≡ o.ended) × ((with_plain o operation to args d).at_end ≡ o.at_end)
+plain_fields o operation (Some b) args d = (refl, refl, omega arith, refl, refl, refl, refl, refl, refl)
+plain_fields o operation None args d = (refl, refl, omega arith, refl, refl, refl, refl, refl, refl)
 
 pub sets_is : (p : Part) → sets_overflow p ≡ overflowing_part p
 sets_is part.Plain = refl
@@ -95,6 +96,7 @@ keeps_plain_now op o going is =
       boxes = f.2;
       counted = let g : (with_plain o op.code op.result (args_of o op.args) op.descr).guard ≡ o.guard = f.3 in omega (arith, g);
       checked = λ s. f.4 ∙ sym (sets_is (part_of op.code)) ∙ s;
+      printed = prints_plain op o (with_plain o op.code op.result (args_of o op.args) op.descr) (given_by o op.result) going f.0 f.1 (f.7 ∙ going, f.8) (stays_performed op.code is);
       to = f.5;
       target = f.6;
     }
@@ -128,6 +130,7 @@ keeps_kept_now op o going is = record {
   boxes = omega arith;
   counted = omega arith;
   checked = λ s. no_set op is s;
+  printed = prints_guard op o (kept_at o op.code (args_of o op.args) op.snapshot) going refl refl (going, refl) (stays_tested op.code is);
   to = refl;
   target = refl;
 }
@@ -149,6 +152,7 @@ keeps_skipped op o new going is always n = subst (KeepsAll op o) (sym n) (record
   boxes = omega arith;
   counted = omega arith;
   checked = λ s. no_set op is s;
+  printed = prints_nothing op o (skipped o) going refl refl (going, refl) (stays_tested op.code is);
   to = refl;
   target = refl;
 })
@@ -167,6 +171,7 @@ keeps_exited op o new going is never n = subst (KeepsAll op o) (sym n) (record {
   boxes = omega arith;
   counted = omega arith;
   checked = λ s. no_set op is s;
+  printed = prints_exit op o going;
   to = refl;
   target = refl;
 })
@@ -176,8 +181,8 @@ keeps_dropped op o new going e n = keeps_skipped op o new going (inl (ap part_of
 
 -- Ends
 
-keeps_pre : (op : Op) (o : Pass) → o.ended ≡ false → part_of op.code ≡ part.Jump → KeepsAll op o (with_jump o (args_of o op.args))
-keeps_pre op o going is = record {
+keeps_pre : (op : Op) (o : Pass) → o.ended ≡ false → o.to.half ≡ half.Pre → part_of op.code ≡ part.Jump → KeepsAll op o (with_jump o (args_of o op.args))
+keeps_pre op o going pre is = record {
   each = λ laws t apart right checked. record {
     going = going;
     more = opt.Jump o.to (args_of o op.args) ∷ [];
@@ -189,6 +194,7 @@ keeps_pre op o going is = record {
   boxes = omega arith;
   counted = omega arith;
   checked = λ s. absurd (false_true (sym (ap sets_overflow is) ∙ s));
+  printed = prints_jump op o going pre;
   to = refl;
   target = refl;
 }
@@ -206,16 +212,17 @@ keeps_body op o going is = record {
   boxes = omega arith;
   counted = omega arith;
   checked = λ s. absurd (false_true (sym (ap sets_overflow is) ∙ s));
+  printed = prints_body op o going;
   to = refl;
   target = refl;
 }
 
 pub keeps_jump : (op : Op) (o new : Pass) → o.ended ≡ false → part_of op.code ≡ part.Jump → new ≡ jumped o op.args → KeepsAll op o new
-keeps_jump op o new going is n = subst (KeepsAll op o) (sym n) (by o.to.half)
+keeps_jump op o new going is n = subst (KeepsAll op o) (sym n) (by o.to.half refl)
   where
-    by : (h : Half) → KeepsAll op o (jumped_in h o op.args)
-    by half.Pre = keeps_pre op o going is
-    by half.Body = keeps_body op o going is
+    by : (h : Half) → o.to.half ≡ h → KeepsAll op o (jumped_in h o op.args)
+    by half.Pre e = keeps_pre op o going e is
+    by half.Body e = keeps_body op o going is
 
 pub keeps_finish : (op : Op) (o new : Pass) (args : List Arg) (value : Option Arg) → o.ended ≡ false → part_of op.code ≡ part.Finish → args ≡ args_of o op.args → value ≡ slice_get args 0 → new ≡ with_finish o value → KeepsAll op o new
 keeps_finish op o new args value going is e f n = subst (KeepsAll op o) (sym (n ∙ ap (with_finish o) (f ∙ ap (λ z. slice_get z 0) e))) (record {
@@ -230,6 +237,7 @@ keeps_finish op o new args value going is e f n = subst (KeepsAll op o) (sym (n 
   boxes = omega arith;
   counted = omega arith;
   checked = λ s. absurd (false_true (sym (ap sets_overflow is) ∙ s));
+  printed = prints_finish op o going;
   to = refl;
   target = refl;
 })

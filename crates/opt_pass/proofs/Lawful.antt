@@ -50,10 +50,17 @@ use Rattle.trace_meaning.specs.Recorded.{inputs_of, ops_of, ops_at, last_of, jum
 use Rattle.opt_meaning.specs.Leaving.{Simulates}
 use Rattle.trace_ops.specs.declared.piece.Piece.{Piece}
 use Rattle.opt_pass.specs.declared.state.Pass.{Pass}
-use Rattle.opt_pass.specs.Contract.{JumpsTo}
+use Rattle.opt_pass.specs.Contract.{JumpsTo, IsOf, EndsWith, IsSmall, shape_cost, store_cost, cost_of}
+use Rattle.std.specs.Prelude.{◌<◌, ◌++◌}
+use Rattle.std.specs.List.{flat_map, sum_by}
+use Rattle.std.proofs.lemmas.List.{length-append}
+use Rattle.std.proofs.lemmas.List.Sums.{sum_by-cons}
+use Rattle.lists.proofs.Places.{get_some}
+use Rattle.trace_ops.specs.Pieces.{results_of}
+use Rattle.trace_ops.specs.Weights.{operation_weight, own_of, own_weight}
 use Rattle.opt_pass.specs.Starting.{numbered_from}
 use Rattle.trace_meaning.specs.Keeping.{LegsKeepKinds}
-use Rattle.opt_pass.specs.Keeping.{ArePaired, CanEnter, AreRight, IsMade}
+use Rattle.opt_pass.specs.Keeping.{ArePaired, CanEnter, AreRight, IsMade, IsBare, weight_from, EndsLast, IsDone}
 use Rattle.std.specs.Prelude.{nat_eq, cond}
 use Rattle.trace_ops.specs.declared.table.SizeRow.{SizeRow}
 use Rattle.trace_ops.specs.declared.table.FieldRow.{FieldRow}
@@ -255,12 +262,82 @@ simulates_set laws set id q e piece o m right l ops kinds = record {
       ((m laws right).leaves vs w us u (kinds vs w can) admits));
 }
 
-pub made_simulates : (laws : Laws) (set : TraceSet) (id : PieceId) (q : ℕ) (e : Entry) (s : TraceSet) (inputs target : List BoxId) (ops : List Op) (o : Pass) (label items : List BoxId) → IsInRange set → IsWellFormed set → JumpsTo set id.trace q → IsLawful set e
-    → s ≡ set → inputs ≡ inputs_of (slice_get s.traces id.trace) → ops ≡ ops_at s id.trace → target ≡ inputs_of (slice_get s.traces q) → IsMade s.table inputs target e ops o → label ≡ numbered_from items 0 → items ≡ e.label → LegsKeepKinds set id.trace
-    → Simulates set id.trace e (record { id = id; label = label; ops = o.ops }) o.guards o.at_end
-made_simulates laws set id q e s inputs target ops o label items ranged formed aims lawful is i p g m l it kinds =
-    let one : IsMade set.table inputs target e ops o = subst (λ z. IsMade z.table inputs target e ops o) is m in
-    let two : IsMade set.table (inputs_of (slice_get set.traces id.trace)) target e ops o = subst (λ z. IsMade set.table z target e ops o) (i ∙ ap (λ z. inputs_of (slice_get z.traces id.trace)) is) one in
-    let three : IsMade set.table (inputs_of (slice_get set.traces id.trace)) (inputs_of (slice_get set.traces q)) e ops o = subst (λ z. IsMade set.table (inputs_of (slice_get set.traces id.trace)) z e ops o) (g ∙ ap (λ z. inputs_of (slice_get z.traces q)) is) two in
-    let four : IsMade set.table (inputs_of (slice_get set.traces id.trace)) (inputs_of (slice_get set.traces q)) e (ops_at set id.trace) o = subst (λ z. IsMade set.table (inputs_of (slice_get set.traces id.trace)) (inputs_of (slice_get set.traces q)) e z o) (p ∙ ap (λ z. ops_at z id.trace) is) three in
-    simulates_set laws set id q e (record { id = id; label = label; ops = o.ops }) o four (right_set set id.trace q e ranged formed aims lawful) (l ∙ ap (λ z. numbered_from z 0) it) refl kinds
+-- What else is promised
+
+-- the last operation of a trace of the set ends it
+last_ends : (set : TraceSet) → IsWellFormed set → (p : ℕ) → p < length set.traces → EndsLast (ops_at set p)
+last_ends set formed p lt = by (get_some set.traces p lt)
+  where
+    by : (x : Trace) × (slice_get set.traces p ≡ Some x) → EndsLast (ops_at set p)
+    by q =
+        let some : 0 < length q.0.ops = formed.has_operations p q.0 q.1 in
+        let at = get_some q.0.ops (length q.0.ops - 1) (omega (arith, some)) in
+        let long : length q.0.ops ≡ (length q.0.ops - 1) + 1 = omega (arith, some) in
+        subst EndsLast (sym (ap ops_of q.1)) (record {
+          last = at.0;
+          before = length q.0.ops - 1;
+          long = long;
+          there = at.1;
+          ends = (formed.ends_at_end p q.0 q.1 (length q.0.ops - 1) at.0 at.1).1 (sym long);
+        })
+
+weight_own : (sizes : List SizeRow) (ops : List Op) → weight_from ops ≤ sum_by (operation_weight sizes) ops
+weight_own sizes [] = omega arith
+weight_own sizes (op ∷ ops) =
+    let rest : weight_from ops ≤ sum_by (operation_weight sizes) ops = weight_own sizes ops in
+    let one : weight_from (op ∷ ops) ≡ (1 + length op.args) + weight_from ops = sum_by-cons (λ (x : Op). 1 + length x.args) op ops in
+    let own : sum_by (operation_weight sizes) (op ∷ ops) ≡ operation_weight sizes op + sum_by (operation_weight sizes) ops = sum_by-cons (operation_weight sizes) op ops in
+    omega (arith, rest, one, own)
+
+weight_set : (sizes : List SizeRow) (x : Option Trace) → weight_from (ops_of x) ≤ own_of sizes x
+weight_set sizes None = omega arith
+weight_set sizes (Some t) = weight_own sizes t.ops
+
+bare_cost : (e : Entry) → IsBare e → cost_of e ≡ 0
+bare_cost e h = ap (λ z. sum_by shape_cost z + sum_by store_cost e.pending) h.0 ∙ ap (λ z. 0 + sum_by store_cost z) h.1
+
+bare_costs : (n : ℕ) (guards : List (ℕ × Entry)) → AllByRecursion (λ x. IsBare x.1) guards → AllByRecursion (λ x. cost_of x.1 ≤ n) guards
+bare_costs n [] h = tt
+bare_costs n (x ∷ xs) h = let none : cost_of x.1 ≡ 0 = bare_cost x.1 h.0 in (omega (arith, none), bare_costs n xs h.1)
+
+numbered_kinds : (bs : List BoxId) (n : ℕ) → map (λ (b : BoxId). b.kind) (numbered_from bs n) ≡ map (λ (b : BoxId). b.kind) bs
+numbered_kinds [] n = refl
+numbered_kinds (b ∷ bs) n = ap (λ z. b.kind ∷ z) (numbered_kinds bs (n + 1))
+
+numbered_long : (bs : List BoxId) (n : ℕ) → length (numbered_from bs n) ≡ length bs
+numbered_long [] n = refl
+numbered_long (b ∷ bs) n = ap suc (numbered_long bs (n + 1))
+
+module _ (set : TraceSet) (id : PieceId) (to : PieceId) (e : Entry) (s : TraceSet) (inputs target : List BoxId) (ops : List Op) (o : Pass) (label items : List BoxId) (is : s ≡ set) (p : ops ≡ ops_at s id.trace) (l : label ≡ numbered_from items 0) (it : items ≡ e.label) (m : IsDone s.table inputs to target e ops o) where
+  its_ops : ops ≡ ops_at set id.trace
+  its_ops = p ∙ ap (λ z. ops_at z id.trace) is
+
+  pub made_of_entry : IsOf id e (record { id = id; label = label; ops = o.ops })
+  made_of_entry = record { name = refl; label = ap (map (λ (b : BoxId). b.kind)) l ∙ numbered_kinds items 0 ∙ ap (map (λ (b : BoxId). b.kind)) it }
+
+  pub made_ends : IsWellFormed set → id.trace < length set.traces → EndsWith to o.at_end o.ops
+  made_ends formed lt = m.shows.ending (subst EndsLast (sym its_ops) (last_ends set formed id.trace lt))
+
+  pub made_small : IsSmall set id.trace e (record { id = id; label = label; ops = o.ops }) o.guards o.at_end
+  made_small =
+      let own : weight_from (ops_at set id.trace) ≤ own_weight set id.trace = weight_set set.table.sizes (slice_get set.traces id.trace) in
+      let same : weight_from ops ≡ weight_from (ops_at set id.trace) = ap weight_from its_ops in
+      let long : length ops ≡ length (ops_at set id.trace) = ap length its_ops in
+      let none : cost_of o.at_end ≡ 0 = bare_cost o.at_end m.shows.bare in
+      let shapes : length o.at_end.shapes ≡ 0 = ap length m.shows.bare.0 in
+      let labels : length label ≡ length e.label = ap length l ∙ numbered_long items 0 ∙ ap length it in
+      let all : length (label ++ flat_map results_of o.ops) ≡ length label + length (flat_map results_of o.ops) = length-append label (flat_map results_of o.ops) in
+      record {
+        size = omega (arith, own, same, none, m.shows.small);
+        guards = bare_costs (own_weight set id.trace + cost_of e) o.guards m.shows.held;
+        boxes = omega (arith, long, shapes, labels, all, m.shows.boxes);
+      }
+
+  pub made_simulates : (laws : Laws) → IsInRange set → IsWellFormed set → JumpsTo set id.trace to.trace → IsLawful set e → inputs ≡ inputs_of (slice_get s.traces id.trace) → target ≡ inputs_of (slice_get s.traces to.trace) → LegsKeepKinds set id.trace
+      → Simulates set id.trace e (record { id = id; label = label; ops = o.ops }) o.guards o.at_end
+  made_simulates laws ranged formed aims lawful i g kinds =
+      let one : IsMade set.table inputs target e ops o = subst (λ z. IsMade z.table inputs target e ops o) is m.made in
+      let two : IsMade set.table (inputs_of (slice_get set.traces id.trace)) target e ops o = subst (λ z. IsMade set.table z target e ops o) (i ∙ ap (λ z. inputs_of (slice_get z.traces id.trace)) is) one in
+      let three : IsMade set.table (inputs_of (slice_get set.traces id.trace)) (inputs_of (slice_get set.traces to.trace)) e ops o = subst (λ z. IsMade set.table (inputs_of (slice_get set.traces id.trace)) z e ops o) (g ∙ ap (λ z. inputs_of (slice_get z.traces to.trace)) is) two in
+      let four : IsMade set.table (inputs_of (slice_get set.traces id.trace)) (inputs_of (slice_get set.traces to.trace)) e (ops_at set id.trace) o = subst (λ z. IsMade set.table (inputs_of (slice_get set.traces id.trace)) (inputs_of (slice_get set.traces to.trace)) e z o) its_ops three in
+      simulates_set laws set id to.trace e (record { id = id; label = label; ops = o.ops }) o four (right_set set id.trace to.trace e ranged formed aims lawful) (l ∙ ap (λ z. numbered_from z 0) it) refl kinds

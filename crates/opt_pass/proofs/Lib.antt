@@ -9,11 +9,13 @@ pub mod Bound
 pub mod Plain
 pub mod Guards
 pub mod Ends
+pub mod Prints
 pub mod Arms
 pub mod Label
 pub mod Making
 pub mod Storing
 pub mod Begun
+pub mod Showing
 pub mod Loop
 pub mod Lawful
 pub mod Pures

@@ -12,7 +12,7 @@ use Rattle.opt_pass.specs.Keeping.{IsRight, IsCheckedAt, sets_overflow, KeepsAll
 use Rattle.std.proofs.Common.{get_or}
 use Rattle.std.proofs.lemmas.List.{take_more, take_all}
 use Rattle.std.proofs.lemmas.List.Elements.{All-from_recursion, All-get_or}
-use Rattle.opt_pass.specs.Keeping.{ArePaired, AreRight, IsMade}
+use Rattle.opt_pass.specs.Keeping.{ArePaired, AreRight, IsDone}
 use Rattle.trace_ops.specs.declared.table.Table.{Table}
 use Rattle.trace_ops.specs.declared.piece.PieceId.{PieceId}
 use Rattle.trace_ops.specs.Lawful.{AreDistinct}
@@ -20,6 +20,7 @@ use Rattle.opt_pass.specs.Starting.{numbered_from, started}
 use Rattle.opt_pass.proofs.Whole.{SoFar, so_far_more, simulates}
 use Rattle.opt_pass.proofs.Begun.{so_far_start}
 use Rattle.opt_pass.specs.Laws.{Laws}
+use Rattle.opt_pass.proofs.Showing.{Shown, shown_start, shown_more, shows_end, shows_all}
 
 -- after so many operations
 pub record Reached (t : Table) (inputs : List BoxId) (to : PieceId) (target : List BoxId) (e : Entry) (ops : List Op) (n : ℕ) (o : Pass) : Type 0 where
@@ -29,6 +30,7 @@ pub record Reached (t : Table) (inputs : List BoxId) (to : PieceId) (target : Li
   pub checked : (j : ℕ) (op : Op) → n ≡ j + 1 → slice_get ops j ≡ Some op → sets_overflow (part_of op.code) ≡ true → o.checked ≡ true
   pub aim : o.to ≡ to
   pub inputs_there : o.target ≡ target
+  pub shown : Shown to e ops n o
 
 pub reached_start : (t : Table) (inputs : List BoxId) (to : PieceId) (target : List BoxId) (e : Entry) (ops : List Op) (o : Pass) → o ≡ started t inputs to target e → Reached t inputs to target e ops 0 o
 reached_start t inputs to target e ops o same = subst (Reached t inputs to target e ops 0) (sym same) (record {
@@ -38,6 +40,7 @@ reached_start t inputs to target e ops o same = subst (Reached t inputs to targe
   checked = λ j op n at s. absurd (omega (arith, n));
   aim = refl;
   inputs_there = refl;
+  shown = shown_start t inputs to target e ops;
 })
 
 get_is : (ops : List Op) (n : ℕ) (op : Op) → n < length ops → op ≡ get_or ops n op → slice_get ops n ≡ Some op
@@ -64,6 +67,7 @@ reached_more t inputs to target e ops n op old new lt is h k = record {
   checked = λ j q m at s. let same : j ≡ n = omega (arith, m) in k.checked (subst (λ z. sets_overflow (part_of z.code) ≡ true) (some_same (sym at ∙ ap (slice_get ops) same ∙ get_is ops n op lt is)) s);
   aim = k.to ∙ h.aim;
   inputs_there = k.target ∙ h.inputs_there;
+  shown = shown_more to e ops n op old new (take_more ops n op lt ∙ ap (λ z. take n ops ++ z ∷ []) (sym is)) (get_is ops n op lt is) h.aim h.shown k.printed;
 }
 
 split : (ops : List Op) (n : ℕ) → take n ops ++ drop n ops ≡ ops
@@ -71,11 +75,17 @@ split ops zero = refl
 split [] (suc n) = refl
 split (x ∷ xs) (suc n) = ap (λ z. x ∷ z) (split xs n)
 
-pub reached_end : (t : Table) (inputs : List BoxId) (to : PieceId) (target : List BoxId) (e : Entry) (ops : List Op) (n : ℕ) (o : Pass) → Reached t inputs to target e ops n o → o.ended ≡ true → IsMade t inputs target e ops o
-reached_end t inputs to target e ops n o h ended laws right = simulates laws t inputs e (numbered_from e.label 0) ops (take n ops) (drop n ops) o (split ops n) (h.so_far laws right) (inl ended)
+pub reached_end : (t : Table) (inputs : List BoxId) (to : PieceId) (target : List BoxId) (e : Entry) (ops : List Op) (n : ℕ) (o : Pass) → Reached t inputs to target e ops n o → n ≤ length ops → o.ended ≡ true → IsDone t inputs to target e ops o
+reached_end t inputs to target e ops n o h few ended = record {
+  made = λ laws right. simulates laws t inputs e (numbered_from e.label 0) ops (take n ops) (drop n ops) o (split ops n) (h.so_far laws right) (inl ended);
+  shows = shows_end to e ops n o h.shown few ended;
+}
 
-pub reached_all : (t : Table) (inputs : List BoxId) (to : PieceId) (target : List BoxId) (e : Entry) (ops : List Op) (n : ℕ) (o : Pass) → Reached t inputs to target e ops n o → length ops ≤ n → IsMade t inputs target e ops o
-reached_all t inputs to target e ops n o h le laws right = simulates laws t inputs e (numbered_from e.label 0) ops (take n ops) [] o (append_none (take n ops) ∙ take_all n ops le) (h.so_far laws right) (inr refl)
+pub reached_all : (t : Table) (inputs : List BoxId) (to : PieceId) (target : List BoxId) (e : Entry) (ops : List Op) (n : ℕ) (o : Pass) → Reached t inputs to target e ops n o → n ≤ length ops → length ops ≤ n → IsDone t inputs to target e ops o
+reached_all t inputs to target e ops n o h few le = record {
+  made = λ laws right. simulates laws t inputs e (numbered_from e.label 0) ops (take n ops) [] o (append_none (take n ops) ∙ take_all n ops le) (h.so_far laws right) (inr refl);
+  shows = shows_all to e ops n o h.shown (omega (arith, few, le));
+}
   where
     append_none : {X : Type 0} (xs : List X) → xs ++ [] ≡ xs
     append_none [] = refl

@@ -30,6 +30,8 @@ use Rattle.trace_ops.specs.Classes.{is_pure}
 use Rattle.trace_meaning.specs.Folding.{fold}
 use Rattle.opt_pass.specs.Keeping.{IsPerformed}
 use Rattle.opt_pass.specs.Words.{only_arg, same_of, folded_of, folded_arg, IsFew, IsMadeNoted}
+use Rattle.trace_ops.specs.Rules.{ends}
+use Rattle.opt_pass.proofs.Prints.{prints_nothing, prints_plain}
 use Rattle.opt_pass.proofs.Extending.{first_parts}
 use Rattle.opt_pass.proofs.Args.{by_raw, named_stand, args_stand}
 use Rattle.opt_pass.proofs.Arms.{keeps_plain, none_late, no_ops}
@@ -64,6 +66,7 @@ keeps_value op o new of value going pure gives is n = subst (KeepsAll op o) (sym
   boxes = omega arith;
   counted = omega arith;
   checked = λ s. no_set op.code pure s;
+  printed = prints_nothing op o (named_as o of value) going refl refl (going, refl) (ap ends (pure_plain op.code pure));
   to = refl;
   target = refl;
 })
@@ -168,6 +171,7 @@ keeps_made op o new of raws args going pure gives few_raws few is_raw is made =
       boxes = omega (arith, size);
       counted = omega (arith, count);
       checked = λ s. no_set op.code pure s;
+      printed = prints_plain op o new (Some (next_box o of)) going (ap (λ (z : Pass). z.ops) noted.rest) (ap (λ (z : Pass). z.guards) noted.rest) (ap (λ (z : Pass). z.ended) noted.rest ∙ going, ap (λ (z : Pass). z.at_end) noted.rest) (ap ends (pure_plain op.code pure));
       to = ap (λ (z : Pass). z.to) noted.rest;
       target = ap (λ (z : Pass). z.target) noted.rest;
     }

@@ -37,8 +37,9 @@ use Rattle.opt_pass.specs.State.{args_of, skipped, standing_for, kept_at, exited
 use Rattle.trace_meaning.specs.Legs.{then_turn, drive_to}
 use Rattle.opt_pass.specs.Standing.{known_of, at_states, HasPassed, args_in, IsQuiet, Stands, SameTurn}
 use Rattle.opt_pass.specs.Keeping.{IsThere, sets_overflow, KeepsAll}
-use Rattle.std.specs.Prelude.{ℤ, pos}
+use Rattle.std.specs.Prelude.{ℤ, pos, not}
 use Rattle.std.proofs.lemmas.Bool.Decides.{Decides-int_eq}
+use Rattle.opt_pass.proofs.Prints.{prints_guard, stays_tested}
 use Rattle.opt_pass.proofs.Binding.{box_decides}
 use Rattle.trace_meaning.specs.Passing.{is_zero_word}
 use Rattle.agreement.specs.Guarding.{reads_overflow}
@@ -114,6 +115,27 @@ module _ (laws : Laws) (t : Table) (o : Pass) (r : Rec) (p : Opt) (h : Stands t 
       let k : HasPassed p op.code args = subst (HasPassed p op.code) (key_args op.code args few) (subst (λ z. HasPassed p z (args_in (key op.code args))) (key_code op.code args few) (h.passed (key op.code args) value at)) in
       let values : opt_values p (args_of o op.args) ≡ Some k.0 = ap (opt_values p) (sym ea) ∙ k.1 in
       sym (passes_here (wants, is) k.0 values) ∙ ap (λ z. passes z (args_of o op.args) k.0 p.world) is ∙ truth_alone wants (args_of o op.args) k.0 p.world ∙ ap (λ z. passes_with z (args_of o op.args) k.0 [] false) (sym is) ∙ ap (λ z. passes_with op.code z k.0 [] false) (sym ea) ∙ k.2
+
+-- where the opposite guard has passed, this one fails
+negated_true : (x : Option Bool) → option_map not x ≡ Some true → x ≡ Some false
+negated_true None e = absurd (none_some e)
+negated_true (Some true) e = absurd (false_true (some_same e))
+negated_true (Some false) e = refl
+
+opposed : (wants : Bool) (args others : List Arg) (us : List Value) → passes_with (truth_code (not wants)) others us [] false ≡ Some true → passes_with (truth_code wants) args us [] false ≡ Some false
+opposed true args others us e = ap (option_map not) e
+opposed false args others us e = negated_true (is_zero_word us) e
+
+module _ (laws : Laws) (t : Table) (o : Pass) (r : Rec) (p : Opt) (h : Stands t o r p) (op : Op) (vs : List Value) (there : AllByRecursion (IsThere t) op.args) (e : values_of r op.args ≡ Some vs) where
+  opposed_fails : (wants : Bool) → op.code ≡ truth_code wants → (args : List Arg) → args ≡ args_of o op.args → IsFew args → (value : Arg) → noted o.passed (truth_code (not wants)) args ≡ Some value → passes op.code op.args vs r.world ≡ Some false
+  opposed_fails wants is args ea few value at =
+      let other : OpCode = truth_code (not wants) in
+      let k : HasPassed p other args = subst (HasPassed p other) (key_args other args few) (subst (λ z. HasPassed p z (args_in (key other args))) (key_code other args few) (h.passed (key other args) value at)) in
+      let values : opt_values p (args_of o op.args) ≡ Some k.0 = ap (opt_values p) (sym ea) ∙ k.1 in
+      sym (passes_here laws t o r p h op vs there e (wants, is) k.0 values) ∙ ap (λ z. passes z (args_of o op.args) k.0 p.world) is ∙ truth_alone wants (args_of o op.args) k.0 p.world ∙ opposed wants (args_of o op.args) args k.0 k.2
+
+pub keeps_opposed : (op : Op) (o new : Pass) (wants : Bool) (args : List Arg) (frames : List Frame) (value : Arg) → o.ended ≡ false → op.code ≡ truth_code wants → args ≡ args_of o op.args → IsFew args → Some value ≡ noted o.passed (truth_code (not wants)) args → frames ≡ op.snapshot → new ≡ exited_at o frames → KeepsAll op o new
+keeps_opposed op o new wants args frames value going is ea few at f n = keeps_exited op o new going (truth_tested op.code (wants, is)) (λ laws t r p h vs there e. opposed_fails laws t o r p h op vs there e wants is args ea few value (sym at)) (n ∙ ap (exited_at o) f)
 
 pub keeps_const_passed : (op : Op) (o new : Pass) (wants : Bool) (args : List Arg) → o.ended ≡ false → op.code ≡ truth_code wants → args ≡ args_of o op.args → known_pass wants args ≡ Some true → new ≡ skipped o → KeepsAll op o new
 keeps_const_passed op o new wants args going is ea known n = keeps_skipped op o new going (truth_tested op.code (wants, is)) (λ laws t r p h vs there e. const_passes laws t o r p h op vs there e wants is args ea true known) n
@@ -314,6 +336,7 @@ keeps_upgraded op o new going is ops guards frame ended next guard up = record {
   boxes = omega (arith, next);
   counted = omega (arith, guard);
   checked = λ s. false_set op is s;
+  printed = prints_guard op o new going ops guards (ended ∙ going, frame.at_end) (stays_tested op.code is);
   to = frame.to;
   target = frame.target;
 }

@@ -1,6 +1,10 @@
 -- What every handler owes.
-use Rattle.std.specs.Prelude.{◌≡◌, ◌⊎◌, ℕ, ◌+◌, ◌≤◌, ◌<◌, Bool, true, false, List, ◌++◌, Some, length, map, take, slice_get}
-use Rattle.std.specs.List.{AllByRecursion}
+use Rattle.std.specs.Prelude.{◌≡◌, ◌⊎◌, ℕ, ◌+◌, ◌≤◌, ◌<◌, Bool, true, false, List, [], ◌∷◌, ◌++◌, Some, length, map, take, slice_get}
+use Rattle.std.specs.List.{AllByRecursion, flat_map, sum_by}
+use Rattle.trace_ops.specs.Pieces.{is_end, results_of}
+use Rattle.trace_ops.specs.Rules.{ends}
+use Rattle.trace_ops.specs.declared.piece.PieceId.{PieceId}
+use Rattle.opt_pass.specs.Contract.{HasEntries, IsEnd, GoesOn, EndsWith, own_size, cost_of}
 use Rattle.trace_ops.specs.declared.code.OpCode.{OpCode}
 use Rattle.trace_ops.specs.declared.facts.Part.{Part}
 use Rattle.trace_ops.specs.declared.facts.Part.TheVariants as part
@@ -77,12 +81,46 @@ pub record Keeps (t : Table) (op : Op) (old new : Pass) : Type 0 where
   pub guards : new.guards ≡ old.guards ++ late
   pub follows : (r : Rec) (p : Opt) → Stands t old r p → AreOfKind r.boxes → KindsNow (recorded_step t op r) → SameTurn t new (recorded_step t op r) (drive_to (opt_step t) more p)
 
+-- nothing is virtual there, and nothing pending
+abbrev pub IsBare : Entry → Type 0
+IsBare e = (e.shapes ≡ []) × (e.pending ≡ [])
+
+-- What is printed for one recorded operation
+
+abbrev pub Goes : Pass → Pass → Type 0
+Goes old new = (new.ended ≡ false) × (new.at_end ≡ old.at_end)
+
+abbrev pub IsEndingBy : Bool → Pass → Pass → OptOp → Type 0
+IsEndingBy false old new x = GoesOn x × Goes old new
+IsEndingBy true old new x = (new.ended ≡ true) × (old.at_end ≡ plain_entry [] → IsEnd old.to new.at_end x)
+
+-- at most one operation, with which the piece goes on or ends
+abbrev pub IsEnding : Pass → Pass → List OptOp → Type 0
+IsEnding old new [] = Goes old new
+IsEnding old new (x ∷ []) = IsEndingBy (is_end x) old new x
+IsEnding old new (x ∷ y ∷ more) = ⊥
+
+pub record Printed (op : Op) (old new : Pass) : Type 0 where
+  pub going : old.ended ≡ false
+  pub more : List OptOp
+  pub late : List (ℕ × Entry)
+  pub ops : new.ops ≡ old.ops ++ more
+  pub guards : new.guards ≡ old.guards ++ late
+  pub entries : HasEntries more late
+  pub small : sum_by own_size more ≤ 1 + length op.args
+  pub ending : IsEnding old new more
+  pub leaves : ends (part_of op.code) ≡ true → new.ended ≡ true
+  pub boxes : length (flat_map results_of more) ≤ 1
+  pub bare : IsBare old.at_end → IsBare new.at_end
+  pub held : AllByRecursion (λ x. IsBare x.1) late
+
 -- of every lawful table; and each operation makes at most one box, and is at most one guard
 pub record KeepsAll (op : Op) (old new : Pass) : Type 0 where
   pub each : Laws → (t : Table) → AreDistinct old.target → IsRight t old.target op → IsCheckedAt (part_of op.code) old → Keeps t op old new
   pub boxes : new.next ≤ old.next + 1
   pub counted : new.guard ≤ old.guard + 1
   pub checked : sets_overflow (part_of op.code) ≡ true → new.checked ≡ true
+  pub printed : Printed op old new
   pub to : new.to ≡ old.to
   pub target : new.target ≡ old.target
 
@@ -122,3 +160,30 @@ pub record AreRight (t : Table) (target : List BoxId) (e : Entry) (ops : List Op
 -- what was made of operations does what they do, from each pair that the entry admits
 abbrev pub IsMade : Table → List BoxId → List BoxId → Entry → List Op → Pass → Type 0
 IsMade t inputs target e ops o = Laws → AreRight t target e ops → Follows t inputs ops e (numbered_from e.label 0) o.ops o.guards o.at_end
+
+-- What the piece is, besides what it does
+
+-- an operation counts one, and one more for each argument
+abbrev pub weight_from : List Op → ℕ
+weight_from ops = sum_by (λ (x : Op). 1 + length x.args) ops
+
+-- the last recorded operation ends its trace
+pub record EndsLast (ops : List Op) : Type 0 where
+  pub last : Op
+  pub before : ℕ
+  pub long : length ops ≡ before + 1
+  pub there : slice_get ops before ≡ Some last
+  pub ends : ends (part_of last.code) ≡ true
+
+-- an entry for each guard, no more operations than the trace and the entry allow, and an end
+pub record Shows (to : PieceId) (e : Entry) (ops : List Op) (o : Pass) : Type 0 where
+  pub entries : HasEntries o.ops o.guards
+  pub small : sum_by own_size o.ops ≤ weight_from ops + cost_of e
+  pub ending : EndsLast ops → EndsWith to o.at_end o.ops
+  pub boxes : length (flat_map results_of o.ops) ≤ length e.shapes + length ops
+  pub bare : IsBare o.at_end
+  pub held : AllByRecursion (λ x. IsBare x.1) o.guards
+
+pub record IsDone (t : Table) (inputs : List BoxId) (to : PieceId) (target : List BoxId) (e : Entry) (ops : List Op) (o : Pass) : Type 0 where
+  pub made : IsMade t inputs target e ops o
+  pub shows : Shows to e ops o

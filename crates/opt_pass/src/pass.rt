@@ -8,8 +8,8 @@ ghost use Rattle.trace_ops.specs.Kinds.{kind_of_val};
 ghost use Rattle.trace_ops.specs.Lawful.{IsLawful};
 ghost use Rattle.trace_meaning.specs.Recorded.{inputs_of, ops_at};
 ghost use Rattle.opt_meaning.specs.Leaving.{Simulates};
-ghost use Rattle.opt_pass.specs.Contract.{JumpsTo};
-ghost use Rattle.opt_pass.specs.Keeping.{KeepsAll, IsMade};
+ghost use Rattle.opt_pass.specs.Contract.{JumpsTo, IsOf, HasEntries, EndsWith, IsSmall};
+ghost use Rattle.opt_pass.specs.Keeping.{KeepsAll, IsDone};
 
 use crate::laws::laws_hold;
 use crate::start::{label_of, start};
@@ -81,7 +81,7 @@ fn optimise_ops(
     target: &[BoxId],
 ) -> Result<Pass, AllocError>
     requires few { length entry.now.label + length entry.now.shapes + length ops.now + 1 < 2 ^ 32 }
-    ensures { IfOk result (λ o. IsMade table.now inputs.now target.now entry.now ops.now o) }
+    ensures { IfOk result (λ o. IsDone table.now inputs.now to target.now entry.now ops.now o) }
 {
     let mut pass = start(alloc, table, inputs, to, target, entry)?;
     for op in ops {
@@ -136,6 +136,10 @@ pub fn optimise(
     requires shapes { length entry.now.shapes < 2 ^ 30 }
     requires values { map kind_of_val entry.now.values ≡ map (λ (b : BoxId). Some b.kind) (inputs_of (slice_get checked.now.traces id.trace)) }
     ensures simulates { IfOk result (λ o. HasWords checked.now → Simulates checked.now id.trace entry.now o.piece o.at_guards o.at_end) }
+    ensures piece { IfOk result (λ o. IsOf id entry.now o.piece) }
+    ensures entries { IfOk result (λ o. HasEntries o.piece.ops o.at_guards) }
+    ensures end { IfOk result (λ o. EndsWith to o.at_end o.piece.ops) }
+    ensures small { IfOk result (λ o. IsSmall checked.now id.trace entry.now o.piece o.at_guards o.at_end) }
 {
     laws_hold();
     lawful_legs_can_begin();

@@ -1,9 +1,7 @@
-//! Worked examples of words, weights, runs and listings.
+//! Worked examples of words, weights and listings.
 #![tactic(auto)]
 
 #[cfg(test)]
 mod listings;
-#[cfg(test)]
-mod runs;
 #[cfg(test)]
 mod words;

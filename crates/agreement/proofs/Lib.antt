@@ -23,3 +23,4 @@ pub mod Spots
 pub mod Telling
 pub mod TellingLegs
 pub mod CarryingOver
+pub mod Narrowing

@@ -81,7 +81,7 @@ true_told (v.Int z ∷ y ∷ ys) e = absurd (none_some e)
 true_told (v.Null ∷ ys) e = absurd (none_some e)
 true_told (v.Obj n ∷ ys) e = absurd (none_some e)
 
-false_told : (vs : List Value) → is_zero_word vs ≡ Some true → vs ≡ v.Int (pos 0) ∷ []
+pub false_told : (vs : List Value) → is_zero_word vs ≡ Some true → vs ≡ v.Int (pos 0) ∷ []
 false_told [] e = absurd (none_some e)
 false_told (v.Int z ∷ []) e = ap (λ n. v.Int n ∷ []) ((Decides-int_eq z (pos 0)).0 (some_same e))
 false_told (v.Int z ∷ y ∷ ys) e = absurd (none_some e)
@@ -96,7 +96,7 @@ nonnull_told (v.Null ∷ y ∷ ys) e = absurd (none_some e)
 nonnull_told (v.Obj n ∷ []) e = (n, refl)
 nonnull_told (v.Obj n ∷ y ∷ ys) e = absurd (none_some e)
 
-isnull_told : (vs : List Value) → is_null vs ≡ Some true → vs ≡ v.Null ∷ []
+pub isnull_told : (vs : List Value) → is_null vs ≡ Some true → vs ≡ v.Null ∷ []
 isnull_told [] e = absurd (none_some e)
 isnull_told (v.Int z ∷ ys) e = absurd (none_some e)
 isnull_told (v.Null ∷ []) e = refl
@@ -109,7 +109,7 @@ alone_not_equal (v.Int z) e = none_some e
 alone_not_equal v.Null e = none_some e
 alone_not_equal (v.Obj n) e = none_some e
 
-equal_told : (x y : Value) → are_equal (x ∷ y ∷ []) ≡ Some true → x ≡ y
+pub equal_told : (x y : Value) → are_equal (x ∷ y ∷ []) ≡ Some true → x ≡ y
 equal_told (v.Int a) (v.Int b) e = ap v.Int ((Decides-int_eq a b).0 (some_same e))
 equal_told (v.Int a) v.Null e = absurd (none_some e)
 equal_told (v.Int a) (v.Obj n) e = absurd (none_some e)
@@ -145,10 +145,10 @@ class_or_null_told objects size (v.Obj n ∷ y ∷ ys) e = absurd (none_some e)
 
 -- A guard that has passed, of boxes and objects as it found them
 
-same_head : {x : Value} {y : Value} {xs : List Value} {ys : List Value} → x ∷ xs ≡ y ∷ ys → x ≡ y
+pub same_head : {x : Value} {y : Value} {xs : List Value} {ys : List Value} → x ∷ xs ≡ y ∷ ys → x ≡ y
 same_head e = cc
 
-nil_cons : {y : Value} {ys : List Value} → [] ≡ y ∷ ys → ⊥
+pub nil_cons : {y : Value} {ys : List Value} → [] ≡ y ∷ ys → ⊥
 nil_cons e = cc
 
 -- the one value is x

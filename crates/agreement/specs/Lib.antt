@@ -10,3 +10,4 @@ pub mod Comparing
 pub mod Performs
 pub mod Spots
 pub mod Telling
+pub mod Narrowing

@@ -24,8 +24,8 @@ pub use reads::{
     reads_alike, shape_is_long,
 };
 pub use runs::{
-    calls_agree, overflow_is_apart, overflows_alike, passed_tells, passes_alike, performs_agree,
-    virtuals_compare, virtuals_pass,
+    calls_agree, overflow_is_apart, overflows_alike, passed_fixes, passed_narrows, passed_tells,
+    passes_alike, performs_agree, virtuals_compare, virtuals_pass,
 };
 pub use stores::{
     both_stores_agree, flush_agrees, flushes_agree, late_store_agrees, virtual_store_agrees,

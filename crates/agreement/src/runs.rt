@@ -1,6 +1,7 @@
 //! Guards and calls.
 
 ghost use Rattle.agreement.specs.Guarding.{PassesAlike, PassedTells};
+ghost use Rattle.agreement.specs.Narrowing.{PassedFixes, PassedNarrows, ZeroIsCompared};
 ghost use Rattle.agreement.specs.Calling.{CallsAgree};
 ghost use Rattle.agreement.specs.Performs.{PerformsAgree, OverflowIsApart, OverflowsAlike};
 ghost use Rattle.agreement.specs.Comparing.{VirtualsCompare, VirtualsPass};
@@ -13,6 +14,18 @@ pub fn passes_alike()
 /// What a passed guard tells of its argument.
 pub fn passed_tells()
     ensures { PassedTells }
+{}
+
+/// Behind a passed guard its argument is a constant: zero, null, or what it was compared with.
+pub fn passed_fixes()
+    ensures { PassedFixes }
+{}
+
+/// Behind a passed guard on a comparison of words, its answer is 1 or 0, and the words lie where their intervals narrow to.
+/// Whether a word is zero is such a comparison.
+pub fn passed_narrows()
+    ensures narrows { PassedNarrows }
+    ensures zero { ZeroIsCompared }
 {}
 
 /// A call makes one event on both sides, and its answer does the same.

@@ -19,6 +19,3 @@ pub use laws::calls_show_their_values;
 pub use observed::put_observed;
 pub use sessions::observe;
 pub use values::put_value;
-
-#[cfg(test)]
-mod tests;

@@ -10,6 +10,4 @@ pub mod Started
 pub mod Behaved
 pub mod Drawn
 pub mod Stepping
-pub mod Tried
-pub mod Tested
 pub mod Ruled

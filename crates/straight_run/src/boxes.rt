@@ -1,8 +1,7 @@
 // Boxes by number.
 #![tactic(auto)]
 
-ghost use Rattle.std.specs.Prelude.{◌≡◌, ◌↔◌, ◌<◌, ◌^◌, [], map, length, IsTrue, IfOk, OnOk};
-ghost use Rattle.std.specs.List.{Contains};
+ghost use Rattle.std.specs.Prelude.{◌≡◌, ◌<◌, ◌^◌, [], map, length, IfOk, OnOk};
 ghost use Rattle.straight_run.specs.Straight.{number_in, renumbered};
 ghost use Rattle.straight_run.specs.Drafting.{with_box, with_result};
 
@@ -39,12 +38,6 @@ impl Boxes {
         ensures { result ≡ length self.now }
     {
         self.kept.len()
-    }
-
-    pub fn has(&self, b: BoxId) -> bool
-        ensures { IsTrue result ↔ Contains self.now b }
-    {
-        self.kept.contains(&b)
     }
 
     // Adds a box behind the others, unless it is there.

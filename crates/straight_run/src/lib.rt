@@ -1,8 +1,8 @@
 //! Straight loops of integer operations: their recorded meaning, their code, and that both agree.
 #![tactic(auto)]
 
+mod arity;
 mod boxes;
-mod checking;
 mod compiler;
 mod draft;
 mod image;
@@ -10,7 +10,6 @@ mod laws;
 mod only_words;
 mod session;
 
-pub use checking::is_straight;
 pub use compiler::compile;
 pub use image::{Image, LoopImage};
 pub use laws::{
@@ -18,6 +17,3 @@ pub use laws::{
 };
 pub use only_words::has_only_words;
 pub use session::{Now, Observed, run};
-
-#[cfg(test)]
-mod tests;

@@ -6,7 +6,7 @@ ghost use Rattle.std.specs.List.{All};
 ghost use Rattle.opt_meaning.specs.StraightStep.{IsInteger};
 ghost use Rattle.straight_run.specs.OnlyWords.{IsWordCode, IsOfWords, IsLoopOfWords, HasOnlyWords};
 
-use crate::checking::arity;
+use crate::arity::arity;
 use trace_ops::{Arg, BoxId, Kind, Op, OpCode, Origin, Trace, TraceSet, same_code, same_kind};
 
 fn is_integer(a: Arg) -> bool

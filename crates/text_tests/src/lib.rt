@@ -1,11 +1,9 @@
-//! Worked lines, tables, traces and sessions, read and written.
+//! Worked lines, sessions and pieces, read and written.
 #![tactic(auto)]
 
 #[cfg(test)]
 mod lines;
 #[cfg(test)]
+mod pieces;
+#[cfg(test)]
 mod sessions;
-#[cfg(test)]
-mod tables;
-#[cfg(test)]
-mod traces;

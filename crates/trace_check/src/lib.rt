@@ -18,6 +18,3 @@ pub use checked::{Checked, check};
 pub use fault::CheckFault;
 pub use laws::check_laws;
 pub use rule::Rule;
-
-#[cfg(test)]
-mod tests;

@@ -24,7 +24,7 @@ use Rattle.trace_text.specs.Names.{names_of}
 use Rattle.trace_text.specs.Values.{named_value}
 use Rattle.trace_text.specs.Meaning.{box_id, arg_of, frame_of, made_of, descr_found}
 use Rattle.trace_text.specs.Spelling.{MoreSlots, slots_end, slot_word, slot_object, SpellsSlots, no_slots, first_word, first_object, SpellsFrames, frames_end, one_frame, SpellsSnapshot, snapshot_framed, MoreArgs, args_end, args_descr, arg_word, arg_class, arg_object, SpellsArgs, no_args, descr_alone, begins_word, begins_class, begins_object, Parts, SpellsLine, line_alone, line_made}
-use Rattle.trace_text.specs.Writing.{args_text, called_text, made_text, snapshot_text, descr_text}
+use Rattle.trace_text.specs.Writing.{args_text, call_text, made_text, snapshot_text, descr_text}
 use Rattle.trace_text.proofs.ReadSets.{Each, NameOrNone, ReadsArg, ReadsSlot, ReadsFrame, ReadsResult, ReadsDescr, ReadsOp}
 use Rattle.trace_text.proofs.WordsBack.{letter_for, box_again, box_is_name, plain_box, plain_integer, plain_null, frame_head_again}
 use Rattle.trace_text.proofs.PiecesBack.{Tight, loose_word, opened, shut, tight_both, arg_words, more_words, args_words, cited, cite_words, snapshot_words, made_words, made_piece, snapshot_piece, descr_piece}
@@ -153,7 +153,7 @@ op_spelled laws t seen others op is h =
 
 -- the line without its line feed
 abbrev pub op_body : Table → Op → List ℕ
-op_body t op = (made_text op.result ++ called_text t op) ++ snapshot_text t op.snapshot
+op_body t op = (made_text op.result ++ call_text t op.code op.args op.descr) ++ snapshot_text t op.snapshot
 
 regroup : (m h a d s : Words) (close : List ℕ) → (m ++ (((h ++ a) ++ d) ++ close ∷ [])) ++ s ≡ m ++ (h ++ (a ++ (d ++ close ∷ s)))
 regroup m h a d s close =
@@ -161,7 +161,7 @@ regroup m h a d s close =
     ∙ ap (λ (x : Words). m ++ x) (append_assoc ((h ++ a) ++ d) (close ∷ []) s ∙ append_assoc (h ++ a) d (close ∷ s) ∙ append_assoc h a (d ++ close ∷ s))
 
 pub op_piece : (laws : TextLaws) (t : Table) (seen : List BoxId) (others : ℕ) (op : Op) → IsWord (name_of op.code) → ReadsOp t seen others op → Tight (op_body t op) (op_words t op)
-unfolding called_text
+unfolding call_text
 op_piece laws t seen others op w h =
     let n = name_of op.code in
     let a = args_words t op.args in
@@ -170,8 +170,8 @@ op_piece laws t seen others op w h =
     let head = opened laws n (n ∷ []) (loose_word laws n w) in
     let inner = descr_piece laws t (n ++ 40 ∷ []) (n ∷ codes "(" ∷ []) op.args op.descr head h.args (cites_name t op.code op.descr h.descr) in
     let called = shut laws (((n ++ 40 ∷ []) ++ args_text t op.args) ++ descr_text t (nat_lt 0 (length op.args)) op.descr) (((n ∷ codes "(" ∷ []) ++ a) ++ d) inner in
-    let made = tight_both (made_text op.result) (called_text t op) (made_words op.result) ((((n ∷ codes "(" ∷ []) ++ a) ++ d) ++ codes ")" ∷ []) (made_piece laws op.result h.result) called in
-    let all = tight_both (made_text op.result ++ called_text t op) (snapshot_text t op.snapshot) (made_words op.result ++ ((((n ∷ codes "(" ∷ []) ++ a) ++ d) ++ codes ")" ∷ [])) s made (snapshot_piece laws t seen op.snapshot h.frames) in
+    let made = tight_both (made_text op.result) (call_text t op.code op.args op.descr) (made_words op.result) ((((n ∷ codes "(" ∷ []) ++ a) ++ d) ++ codes ")" ∷ []) (made_piece laws op.result h.result) called in
+    let all = tight_both (made_text op.result ++ call_text t op.code op.args op.descr) (snapshot_text t op.snapshot) (made_words op.result ++ ((((n ∷ codes "(" ∷ []) ++ a) ++ d) ++ codes ")" ∷ [])) s made (snapshot_piece laws t seen op.snapshot h.frames) in
     subst (λ (x : Words). Tight (op_body t op) x) (regroup (made_words op.result) (n ∷ codes "(" ∷ []) a d s (codes ")")) all
 
 -- ---- its meaning

@@ -10,3 +10,4 @@ pub mod Sections
 pub mod Writing
 pub mod Spelling
 pub mod Merging
+pub mod PieceWriting

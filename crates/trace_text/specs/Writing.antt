@@ -2,6 +2,7 @@
 use Rattle.std.specs.Prelude.{ℕ, Bool, true, false, pos, Option, Some, None, List, [], ◌∷◌, ◌++◌, codes, slice_get, length, nat_lt}
 use Rattle.std.specs.List.{flat_map}
 use Rattle.std.specs.Fmt.{signed_decimal}
+use Rattle.trace_ops.specs.declared.code.OpCode.{OpCode}
 use Rattle.trace_ops.specs.declared.trace.Kind.{Kind}
 use Rattle.trace_ops.specs.declared.trace.Kind.TheVariants as kind
 use Rattle.trace_ops.specs.declared.trace.BoxId.{BoxId}
@@ -98,11 +99,11 @@ origin_text (origin.Bridge parent guard) name = ((codes "%bridge " ++ name) ++ c
 
 -- ---- lines
 
-unfoldable pub called_text : Table → Op → List ℕ
-called_text t op = (((name_of op.code ++ 40 ∷ []) ++ args_text t op.args) ++ descr_text t (nat_lt 0 (length op.args)) op.descr) ++ 41 ∷ []
+unfoldable pub call_text : Table → OpCode → List Arg → Descr → List ℕ
+call_text t operation args of = (((name_of operation ++ 40 ∷ []) ++ args_text t args) ++ descr_text t (nat_lt 0 (length args)) of) ++ 41 ∷ []
 
 unfoldable pub op_line : Table → Op → List ℕ
-op_line t op = ((made_text op.result ++ called_text t op) ++ snapshot_text t op.snapshot) ++ 10 ∷ []
+op_line t op = ((made_text op.result ++ call_text t op.code op.args op.descr) ++ snapshot_text t op.snapshot) ++ 10 ∷ []
 
 unfoldable pub inputs_line : List BoxId → List ℕ
 inputs_line bs = ((91 ∷ []) ++ boxes_text bs) ++ codes "]\n"

@@ -5,7 +5,7 @@ ghost use Rattle.std.specs.List.{flat_map};
 ghost use Rattle.std.specs.Fmt.{signed_decimal};
 ghost use Rattle.descr_table.specs.Names.{size_name, field_name, array_name, prebuilt_name, vtable_name, call_name, function_name};
 ghost use Rattle.trace_text.specs.Sections.{set_at};
-ghost use Rattle.trace_text.specs.Writing.{letter, box_text, class_text, object_text, arg_text, more_args, args_text, more_boxes, boxes_text, comma_if, cited_text, descr_text, frame_text, snapshot_text, made_text, guard_text, origin_text, called_text, op_line, inputs_line, label_line, heading_line, trace_lines, set_text};
+ghost use Rattle.trace_text.specs.Writing.{letter, box_text, class_text, object_text, arg_text, more_args, args_text, more_boxes, boxes_text, comma_if, cited_text, descr_text, frame_text, snapshot_text, made_text, guard_text, origin_text, call_text, op_line, inputs_line, label_line, heading_line, trace_lines, set_text};
 
 use descr_table::{
     array_name, call_name, field_name, function_name, prebuilt_name, size_name, table_laws,
@@ -14,7 +14,7 @@ use descr_table::{
 use std::alloc::{AllocError, Global};
 use text_lines::{lines_are_spelled, put_integer};
 use trace_ops::{
-    Arg, BoxId, Descr, Frame, Kind, Op, Origin, Table, Text, Trace, TraceSet, name_of,
+    Arg, BoxId, Descr, Frame, Kind, Op, OpCode, Origin, Table, Text, Trace, TraceSet, name_of,
 };
 
 fn letter(kind: Kind) -> u8
@@ -55,7 +55,7 @@ fn put_object(out: &mut Vec<u8>, name: &[u8]) -> Result<(), AllocError>
 }
 
 #[tactic(auto, unfolding(crate::specs::Writing::arg_text))]
-fn put_arg(out: &mut Vec<u8>, table: &Table, arg: &Arg) -> Result<(), AllocError>
+pub(crate) fn put_arg(out: &mut Vec<u8>, table: &Table, arg: &Arg) -> Result<(), AllocError>
     ensures { OnOk result (out.new.items ≡ out.old.items ++ arg_text table.now arg.now) }
 {
     match arg {
@@ -79,7 +79,7 @@ fn put_more_args(out: &mut Vec<u8>, table: &Table, args: &[Arg]) -> Result<(), A
 }
 
 #[tactic(auto, unfolding(crate::specs::Writing::args_text))]
-fn put_args(out: &mut Vec<u8>, table: &Table, args: &[Arg]) -> Result<(), AllocError>
+pub(crate) fn put_args(out: &mut Vec<u8>, table: &Table, args: &[Arg]) -> Result<(), AllocError>
     ensures { OnOk result (out.new.items ≡ out.old.items ++ args_text table.now args.now) }
 {
     match args {
@@ -102,7 +102,7 @@ fn put_more_boxes(out: &mut Vec<u8>, boxes: &[BoxId]) -> Result<(), AllocError>
 }
 
 #[tactic(auto, unfolding(crate::specs::Writing::boxes_text))]
-fn put_boxes(out: &mut Vec<u8>, boxes: &[BoxId]) -> Result<(), AllocError>
+pub(crate) fn put_boxes(out: &mut Vec<u8>, boxes: &[BoxId]) -> Result<(), AllocError>
     ensures { OnOk result (out.new.items ≡ out.old.items ++ boxes_text boxes.now) }
 {
     match boxes {
@@ -188,7 +188,7 @@ fn put_snapshot(out: &mut Vec<u8>, table: &Table, frames: &[Frame]) -> Result<()
 }
 
 #[tactic(auto, unfolding(crate::specs::Writing::made_text))]
-fn put_made(out: &mut Vec<u8>, made: &Option<BoxId>) -> Result<(), AllocError>
+pub(crate) fn put_made(out: &mut Vec<u8>, made: &Option<BoxId>) -> Result<(), AllocError>
     ensures { OnOk result (out.new.items ≡ out.old.items ++ made_text made.now) }
 {
     match made {
@@ -200,19 +200,25 @@ fn put_made(out: &mut Vec<u8>, made: &Option<BoxId>) -> Result<(), AllocError>
     }
 }
 
-#[tactic(auto, unfolding(crate::specs::Writing::called_text))]
-fn put_called(out: &mut Vec<u8>, table: &Table, op: &Op) -> Result<(), AllocError>
-    ensures { OnOk result (out.new.items ≡ out.old.items ++ called_text table.now op.now) }
+#[tactic(auto, unfolding(crate::specs::Writing::call_text))]
+pub(crate) fn put_call(
+    out: &mut Vec<u8>,
+    table: &Table,
+    code: OpCode,
+    args: &[Arg],
+    descr: &Descr,
+) -> Result<(), AllocError>
+    ensures { OnOk result (out.new.items ≡ out.old.items ++ call_text table.now code args.now descr.now) }
 {
-    out.extend_from_slice(name_of(op.code))?;
+    out.extend_from_slice(name_of(code))?;
     out.push(b'(')?;
-    put_args(out, table, op.args.items())?;
-    put_descr(out, table, 0 < op.args.items().len(), &op.descr)?;
+    put_args(out, table, args)?;
+    put_descr(out, table, 0 < args.len(), descr)?;
     out.push(b')')?;
     Ok(())
 }
 
-fn end_line(out: &mut Vec<u8>) -> Result<(), AllocError>
+pub(crate) fn end_line(out: &mut Vec<u8>) -> Result<(), AllocError>
     ensures { OnOk result (out.new.items ≡ out.old.items ++ 10 ∷ []) }
 {
     out.push(b'\n')?;
@@ -224,7 +230,7 @@ fn put_op(out: &mut Vec<u8>, table: &Table, op: &Op) -> Result<(), AllocError>
     ensures { OnOk result (out.new.items ≡ out.old.items ++ op_line table.now op.now) }
 {
     put_made(out, &op.result)?;
-    put_called(out, table, op)?;
+    put_call(out, table, op.code, op.args.items(), &op.descr)?;
     put_snapshot(out, table, op.snapshot.items())?;
     end_line(out)
 }
@@ -259,10 +265,10 @@ fn put_label(out: &mut Vec<u8>, label: bool, inputs: &[BoxId]) -> Result<(), All
     out.extend_from_slice(b")\n")
 }
 
-fn put_guard(out: &mut Vec<u8>, parent: &Text, guard: u32) -> Result<(), AllocError>
+pub(crate) fn put_guard(out: &mut Vec<u8>, parent: &[u8], guard: u32) -> Result<(), AllocError>
     ensures { OnOk result (out.new.items ≡ out.old.items ++ guard_text parent.now guard) }
 {
-    out.extend_from_slice(parent.bytes())?;
+    out.extend_from_slice(parent)?;
     out.push(b'/')?;
     put_integer(out, guard as i64)
 }
@@ -280,7 +286,7 @@ fn put_origin(out: &mut Vec<u8>, origin: &Origin, name: &Text) -> Result<(), All
             out.extend_from_slice(b"%bridge ")?;
             out.extend_from_slice(name.bytes())?;
             out.extend_from_slice(b" from ")?;
-            put_guard(out, parent, *guard)
+            put_guard(out, parent.bytes(), *guard)
         }
     }
 }

@@ -1,0 +1,24 @@
+//! The promise, from the laws on runs of pieces.
+
+ghost use Rattle.opt_promise.specs.Promise.{MadePiecesPromise};
+
+use agreement::rebuilt_same;
+use opt_meaning::{
+    ends_match, ends_show_alike, legs_are_short, meeting_pieces_compose, starts_are_paired,
+};
+use trace_meaning::{lawful_legs_can_begin, recorded_legs_are_runs};
+
+/// Pieces that do what their traces do, and are entered as others lead to them, end as the recorded runs do and show the
+/// same, for every loop of a well-formed set, all inputs, answers and cuts, within as many operations as are told.
+pub fn made_pieces_promise()
+    ensures { MadePiecesPromise }
+{
+    rebuilt_same();
+    ends_match();
+    ends_show_alike();
+    legs_are_short();
+    meeting_pieces_compose();
+    starts_are_paired();
+    lawful_legs_can_begin();
+    recorded_legs_are_runs();
+}

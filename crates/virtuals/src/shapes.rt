@@ -110,3 +110,14 @@ pub fn rename_all(shapes: &mut Vec<Option<Shape>>, id: u32, to: BoxId)
         shapes[k] = renamed(shape, id, to);
     }
 }
+
+/// Copies of the shapes, none of them forced.
+pub fn copied(alloc: Global, shapes: &[Shape]) -> Result<Vec<Option<Shape>>, AllocError>
+    ensures { IfOk result (λ out. out.items ≡ map Some shapes.now) }
+{
+    let mut out = Vec::with_capacity(alloc, shapes.len())?;
+    for shape in shapes {
+        out.push(Some(shape.copy()?))?;
+    }
+    Ok(out)
+}

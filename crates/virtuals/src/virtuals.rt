@@ -1,12 +1,12 @@
 //! The virtual objects that were made, by number.
 
-ghost use Rattle.std.specs.Prelude.{◌≡◌, ◌+◌, ◌<◌, ◌^◌, [], ◌∷◌, ◌++◌, None, Some, IsSome, map, length, slice_get, slice_set, IfOk, OnOk, OnErr};
+ghost use Rattle.std.specs.Prelude.{◌≡◌, ℕ, ◌+◌, ◌<◌, ◌^◌, [], ◌∷◌, ◌++◌, None, Some, IsSome, map, length, slice_get, slice_set, IfOk, OnOk, OnErr};
 ghost use Rattle.std.specs.Option.{option_map};
-ghost use Rattle.virtuals.specs.Shapes.{fresh, part_at, put_part, forced as forced_in, IsLive, IsMade, IsSound, StayLive, OthersStayLive};
+ghost use Rattle.virtuals.specs.Shapes.{fresh, part_at, put_part, forced as forced_in, AreShapes, IsLive, IsMade, IsSound, StayLive, OthersStayLive};
 ghost use Rattle.virtuals.specs.Order.{IsOrder};
 
 use crate::order::{Forced, fills, reachable};
-use crate::shapes::{rename_all, with_part, zeros};
+use crate::shapes::{copied, rename_all, with_part, zeros};
 use std::alloc::{AllocError, Global};
 use std::marker::Model;
 use trace_ops::{BoxId, Kind, List, Shape, ShapeOf, Val};
@@ -39,6 +39,16 @@ impl Virtuals {
             alloc,
             shapes: Vec::new(alloc),
         })
+    }
+
+    /// These virtual objects, each numbered by its place.
+    pub fn of_shapes(alloc: Global, shapes: &[Shape]) -> Result<Virtuals, AllocError>
+        requires { AreShapes shapes.now }
+        ensures ok { IfOk result (λ virtuals. virtuals ≡ map Some shapes.now) }
+        ensures live { IfOk result (λ virtuals. (n : ℕ) → n < length shapes.now → IsLive virtuals n) }
+    {
+        let shapes = copied(alloc, shapes)?;
+        Ok(Virtuals { alloc, shapes })
     }
 
     /// A virtual object with a part of each kind, 0 or NULL; its number. Fewer than 2^32 - 1 were made before. More than

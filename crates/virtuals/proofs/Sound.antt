@@ -39,7 +39,7 @@ get_set_other (z ∷ zs) (suc i) zero y ne = refl
 get_set_other (z ∷ zs) (suc i) (suc n) y ne = get_set_other zs i n y (λ e. ne (ap suc e))
 
 -- a part of a fresh object names none
-zeros_name_none : (kinds : List Kind) (m : ℕ) → Has (map zero_of kinds) (l.Virtual m) → ⊥
+pub zeros_name_none : (kinds : List Kind) (m : ℕ) → Has (map zero_of kinds) (l.Virtual m) → ⊥
 zeros_name_none [] m h = h
 zeros_name_none (k.Int ∷ ks) m (inl e) = cc
 zeros_name_none (k.Ref ∷ ks) m (inl e) = cc

@@ -1,2 +1,4 @@
 pub mod MovingLemmas
 pub mod Same
+pub mod RestLemmas
+pub mod NumberLemmas

@@ -13,7 +13,7 @@ use Rattle.parallel_move.specs.Moving.{same, State, put, at_once, after_move, af
 pub same_refl : (p : Place) → same p p ≡ true
 same_refl p = place_laws.lawful.laws.refl p
 
-same_comm : (p q : Place) → same p q ≡ same q p
+pub same_comm : (p q : Place) → same p q ≡ same q p
 same_comm p q = place_laws.lawful.laws.symm p q
 
 -- two places are one, or they differ

@@ -2,6 +2,7 @@
 #![tactic(auto)]
 
 mod moving;
+mod rest;
 
 pub use moving::{Move, moves};
 

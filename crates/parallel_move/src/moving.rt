@@ -1,7 +1,9 @@
 //! Several moves of words at once, as moves one after the other.
-ghost use Rattle.std.specs.Prelude.{◌≡◌, ℕ, ◌≤◌, ℤ, length, map, vec_len, IfOk, OnOk, false, ◌+◌};
-ghost use Rattle.parallel_move.specs.Moving.{State, at_once, after, is_target, is_source, exchanged, exchanged_pair, HasDistinctTargets, Settles, KeepsPlaces, MovesAmong};
+ghost use Rattle.std.specs.Prelude.{◌≡◌, ◌≤◌, length, vec_len, IfOk, OnOk, false, ◌+◌};
+ghost use Rattle.parallel_move.specs.Moving.{State, at_once, after, is_target, HasDistinctTargets, Settles, KeepsPlaces, MovesAmong};
+ghost use Rattle.parallel_move.specs.Resting.{name, named, pairs_of, IsBelow};
 
+use crate::rest::Rest;
 use std::alloc::{AllocError, Global};
 use target_base::Place;
 
@@ -12,88 +14,53 @@ pub enum Move {
     Swap(Place, Place),
 }
 
-// Whether some pair has that target.
-fn is_target(pairs: &[(Place, Place)], place: Place) -> bool
-    ensures { result ≡ is_target place pairs.now }
-{
-    pairs.iter().any(|p| p.0 == place)
-}
-
-// Whether some pair has that source.
-fn is_source(pairs: &[(Place, Place)], place: Place) -> bool
-    ensures { result ≡ is_source place pairs.now }
-{
-    pairs.iter().any(|p| p.1 == place)
-}
-
-// Where the word of a place is once two places have exchanged theirs.
-fn exchanged(one: Place, other: Place, place: Place) -> Place
-    ensures { result ≡ exchanged one other place }
-{
-    if one == place {
-        other
-    } else if other == place {
-        one
-    } else {
-        place
-    }
-}
-
-// The pairs read their sources where these are once two places have exchanged their words.
-fn exchange(pairs: &mut Vec<(Place, Place)>, one: Place, other: Place)
-    ensures { pairs.new.items ≡ map (exchanged_pair one other) pairs.old.items }
-{
-    for k in 0..pairs.len() {
-        let (target, source) = pairs[k];
-        pairs[k] = (target, exchanged(one, other, source));
-    }
-}
-
 // Plans one of the pairs, so that it is no longer to be done.
 fn settle(
     first: &mut Vec<Move>,
     last: &mut Vec<Move>,
-    pairs: &mut Vec<(Place, Place)>,
-    target: Place,
-    source: Place,
+    rest: &mut Rest,
+    pair: (usize, usize),
 ) -> Result<(), AllocError>
-    requires { is_target target pairs.old.items ≡ false }
-    ensures settles { OnOk result (Settles (target, source) first.old.items last.old.items pairs.old.items first.new.items last.new.items pairs.new.items) }
-    ensures distinct { OnOk result (HasDistinctTargets pairs.old.items → HasDistinctTargets pairs.new.items) }
+    requires below { IsBelow (length rest.old.names) pair }
+    requires once { is_target (name rest.old.names pair.0) (pairs_of rest.old) ≡ false }
+    ensures settles { OnOk result (Settles (named rest.old.names pair) first.old.items last.old.items (pairs_of rest.old) first.new.items last.new.items (pairs_of rest.new)) }
+    ensures distinct { OnOk result (HasDistinctTargets (pairs_of rest.old) → HasDistinctTargets (pairs_of rest.new)) }
     ensures few { OnOk result (vec_len first.new + vec_len last.new ≤ vec_len first.old + vec_len last.old + 1) }
-    ensures len { vec_len pairs.new ≡ vec_len pairs.old }
-    ensures among { OnOk result (KeepsPlaces (target, source) first.old.items last.old.items pairs.old.items first.new.items last.new.items pairs.new.items) }
+    ensures len { OnOk result (length rest.new.pairs ≡ length rest.old.pairs) }
+    ensures among { OnOk result (KeepsPlaces (named rest.old.names pair) first.old.items last.old.items (pairs_of rest.old) first.new.items last.new.items (pairs_of rest.new)) }
 {
-    if target == source {
+    let (target, source) = pair;
+    if rest.are_one(target, source) {
         return Ok(());
     }
-    if !is_source(pairs, target) {
-        first.push(Move::Copy(target, source))?;
+    let to = rest.place(target);
+    let from = rest.place(source);
+    if !rest.is_source(target) {
+        first.push(Move::Copy(to, from))?;
         return Ok(());
     }
-    if is_target(pairs, source) {
-        first.push(Move::Swap(target, source))?;
-        exchange(pairs, target, source);
+    if rest.is_target(source) {
+        first.push(Move::Swap(to, from))?;
+        rest.exchange(target, source);
         return Ok(());
     }
-    last.push(Move::Copy(target, source))?;
+    last.push(Move::Copy(to, from))?;
     Ok(())
 }
 
 /// Moves that, done in order, have the effect of all pairs (target, source) at once. No place of theirs is another than
-/// those of the pairs, so a register that stands in no pair stays free.
+/// those of the pairs, so a register that stands in no pair stays free. The time is linear.
 pub fn moves(alloc: Global, pairs: &[(Place, Place)]) -> Result<Vec<Move>, AllocError>
     requires { HasDistinctTargets pairs.now }
     ensures acts { IfOk result (λ ms. (state : State) (p : _) → after ms.items state p ≡ at_once pairs.now state p) }
     ensures few { IfOk result (λ ms. vec_len ms ≤ length pairs.now) }
     ensures among { IfOk result (λ ms. MovesAmong pairs.now ms.items) }
 {
-    let mut rest = Vec::from_slice(alloc, pairs)?;
+    let mut rest = Rest::new(alloc, pairs)?;
     let mut first = Vec::new(alloc);
     let mut last = Vec::new(alloc);
-    while !rest.is_empty() {
-        let (target, source) = rest.remove(0);
-        settle(&mut first, &mut last, &mut rest, target, source)?;
+    while let Some(pair) = rest.take_next() {
+        settle(&mut first, &mut last, &mut rest, pair)?;
     }
     while let Some(m) = last.pop() {
         first.push(m)?;

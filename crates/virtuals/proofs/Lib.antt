@@ -4,3 +4,4 @@ pub mod Sound
 pub mod Made
 pub mod PartLaws
 pub mod Marks
+pub mod NamingLemmas

@@ -1,6 +1,7 @@
 -- Changes keep shapes sound.
 use Rattle.std.proofs.Common.{◌≡◌, ◌≢◌, ℕ, zero, suc, ◌<◌, ◌^◌, Bool, true, false, cond, eqb, List, [], ◌∷◌, ◌++◌, Option, Some, None, length, slice_get, slice_set, IsSome, map, refl, ap, sym, subst, ◌∙◌, ◌⊎◌, inl, inr, arith}
 use Rattle.std.specs.Option.{option_map}
+use Rattle.std.specs.List.{All}
 use Rattle.std.proofs.lemmas.Bool.{eqb-false}
 use Rattle.std.proofs.lemmas.Bool.Decides.{eqb_tells}
 use Rattle.std.proofs.lemmas.Option.{slice_get-map}
@@ -14,8 +15,9 @@ use Rattle.trace_ops.specs.declared.table.ShapeOf.{ShapeOf}
 use Rattle.trace_ops.specs.declared.piece.Val.{Val}
 use Rattle.trace_ops.specs.declared.piece.Val.TheVariants as l
 use Rattle.trace_ops.specs.declared.piece.Shape.{Shape}
-use Rattle.virtuals.specs.Shapes.{Has, zero_of, fresh, parts_in, parts_of, part_at, put_in, put_part, set_part, instead, renamed, forced, IsLive, IsMade, IsSound}
-use Rattle.virtuals.proofs.Lists.{get_push}
+use Rattle.virtuals.specs.Shapes.{Has, zero_of, fresh, parts_in, parts_of, part_at, put_in, put_part, set_part, instead, renamed, forced, AreShapes, IsLive, IsMade, IsSound}
+use Rattle.trace_ops.specs.Lawful.{IsNumbered}
+use Rattle.virtuals.proofs.Lists.{get_push, get_some, has_get, all_at}
 
 -- the slot at a number, in the changed list
 slot_push : {X : Type 0} (xs : List X) (x : X) (n : ℕ) → (slice_get (xs ++ x ∷ []) n ≡ slice_get xs n) ⊎ (slice_get (xs ++ x ∷ []) n ≡ Some x)
@@ -37,7 +39,7 @@ get_set_other (z ∷ zs) (suc i) zero y ne = refl
 get_set_other (z ∷ zs) (suc i) (suc n) y ne = get_set_other zs i n y (λ e. ne (ap suc e))
 
 -- a part of a fresh object names none
-zeros_name_none : (kinds : List Kind) (m : ℕ) → Has (map zero_of kinds) (l.Virtual m) → ⊥
+pub zeros_name_none : (kinds : List Kind) (m : ℕ) → Has (map zero_of kinds) (l.Virtual m) → ⊥
 zeros_name_none [] m h = h
 zeros_name_none (k.Int ∷ ks) m (inl e) = cc
 zeros_name_none (k.Ref ∷ ks) m (inl e) = cc
@@ -179,3 +181,26 @@ live_forced shapes id to n ne live = (
   renamed id to live.0,
   get_set_other (map (option_map (renamed id to)) shapes) id n None ne ∙ slice_get-map (option_map (renamed id to)) shapes n ∙ ap (option_map (option_map (renamed id to))) live.1,
 )
+
+-- shapes as they stand at an entry
+module _ (shapes : List Shape) where
+  some_at : (n : ℕ) → n < length shapes → (shape : Shape) × (slice_get (map Some shapes) n ≡ Some (Some shape))
+  some_at n h = let at = get_some shapes n h in (at.0, slice_get-map Some shapes n ∙ ap (option_map Some) at.1)
+
+  pub live_all : (n : ℕ) → n < length shapes → IsLive (map Some shapes) n
+  live_all n h = some_at n h
+
+  -- what every shape meets
+  each_meets : (P : List Val → Type 0) → P [] → ((n : ℕ) (shape : Shape) → slice_get shapes n ≡ Some shape → P shape.parts) → (n : ℕ) → P (parts_of (map Some shapes) n)
+  each_meets P none each n = by (slice_get shapes n) refl
+    where
+      by : (o : Option Shape) → slice_get shapes n ≡ o → P (parts_of (map Some shapes) n)
+      by None e = subst (λ (o : Option (Option Shape)). P (parts_in o)) (sym (slice_get-map Some shapes n ∙ ap (option_map Some) e)) none
+      by (Some shape) e = subst (λ (o : Option (Option Shape)). P (parts_in o)) (sym (slice_get-map Some shapes n ∙ ap (option_map Some) e)) (each n shape e)
+
+  pub sound_all : AreShapes shapes → IsSound (map Some shapes)
+  sound_all h = record {
+    closed = λ n m. each_meets (λ (ps : List Val). Has ps (l.Virtual m) → IsLive (map Some shapes) m) (λ w. absurd w)
+        (λ j shape at w. live_all m (all_at (IsNumbered (length shapes)) shape.parts (l.Virtual m) (all_at (λ (s : Shape). All (IsNumbered (length shapes)) s.parts) shapes shape h.numbered (has_get shapes j shape at)) w)) n;
+    short = each_meets (λ (ps : List Val). length ps < 2 ^ 32) (omega arith) (λ j shape at. all_at (λ (s : Shape). length s.parts < 2 ^ 32) shapes shape h.short (has_get shapes j shape at));
+  }

@@ -1,5 +1,5 @@
 -- The order in which virtual objects are made and filled.
-use Rattle.std.specs.Prelude.{◌≡◌, ℕ, suc, ◌<◌, Bool, ◌==◌, if◌then◌else◌, List, [], ◌∷◌, ◌++◌, Option, Some, map, length, slice_get}
+use Rattle.std.specs.Prelude.{◌≡◌, ℕ, suc, ◌<◌, ◌==◌, if◌then◌else◌, List, [], ◌∷◌, ◌++◌, Option, Some, map, slice_get}
 use Rattle.std.specs.List.{list_any}
 use Rattle.trace_ops.specs.declared.piece.Val.{Val}
 use Rattle.trace_ops.specs.declared.piece.Val.TheVariants as l
@@ -54,9 +54,9 @@ abbrev pub added_parts : List ℕ → List Val → List ℕ
 added_parts work [] = work
 added_parts work (x ∷ xs) = added_parts (added_part work x) xs
 
--- by number, whether a virtual object is on the work list
-abbrev pub AreMarks : List ℕ → List Bool → Type 0
-AreMarks work marks = (n : ℕ) → n < length marks → slice_get marks n ≡ Some (list_any (λ m. m == n) work)
+-- whether a virtual object is on the work list
+abbrev pub AreMarks : List ℕ → List ℕ → Type 0
+AreMarks work marks = (n : ℕ) → list_any (λ m. n == m) marks ≡ list_any (λ m. m == n) work
 
 -- a part names no virtual object past the marks
 abbrev pub IsBelow : ℕ → Val → Type 0

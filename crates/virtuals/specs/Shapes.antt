@@ -1,6 +1,7 @@
 -- The shapes of virtual objects, by number. One that was forced has none.
 use Rattle.std.specs.Prelude.{◌≡◌, ◌≢◌, ℕ, ◌<◌, ◌^◌, pos, Bool, true, false, ◌==◌, if◌then◌else◌, List, [], ◌∷◌, Option, None, Some, map, length, slice_get, slice_set, ◌⊎◌}
 use Rattle.std.specs.Ordering.{int_eq}
+use Rattle.std.specs.List.{All}
 use Rattle.std.specs.Option.{option_map}
 use Rattle.trace_ops.specs.declared.trace.Kind.{Kind}
 use Rattle.trace_ops.specs.declared.trace.Kind.TheVariants as k
@@ -10,6 +11,7 @@ use Rattle.trace_ops.specs.declared.trace.Arg.TheVariants as a
 use Rattle.trace_ops.specs.declared.piece.Val.{Val}
 use Rattle.trace_ops.specs.declared.piece.Val.TheVariants as l
 use Rattle.trace_ops.specs.declared.piece.Shape.{Shape}
+use Rattle.trace_ops.specs.Lawful.{IsNumbered}
 
 -- x is in the list
 abbrev pub Has : {X : Type 0} → List X → X → Type 0
@@ -95,3 +97,8 @@ forced n to shapes = slice_set (map (option_map (renamed n to)) shapes) n None
 pub record IsSound (shapes : List (Option Shape)) : Type 0 where
   pub closed : (n m : ℕ) → Has (parts_of shapes n) (l.Virtual m) → IsLive shapes m
   pub short : (n : ℕ) → length (parts_of shapes n) < 2 ^ 32
+
+-- the parts of each of these shapes name virtual objects by their places among them, and fit numbers of 32 bits
+pub record AreShapes (shapes : List Shape) : Type 0 where
+  pub numbered : All (λ (s : Shape). All (IsNumbered (length shapes)) s.parts) shapes
+  pub short : All (λ (s : Shape). length s.parts < 2 ^ 32) shapes

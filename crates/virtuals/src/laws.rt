@@ -1,6 +1,6 @@
 //! What is promised of changes and orders: laws over the definitions that the contracts cite.
 
-ghost use Rattle.virtuals.specs.Changes.{SetsOnePart, ForcedIsBox, OrderIsWhole};
+ghost use Rattle.virtuals.specs.Changes.{SetsOnePart, ForcedIsBox, OrderIsWhole, MadeAreStored};
 ghost use Rattle.virtuals.specs.Objects.{MakesObjects};
 
 /// One part gets the value, and no other part changes.
@@ -21,4 +21,9 @@ pub fn order_is_whole()
 /// Doing an order on fresh objects makes each object to which the virtual object leads, with all its parts, and no other.
 pub fn order_makes_objects()
     ensures { MakesObjects }
+{}
+
+/// Each object that an order makes, but the one that is asked for, is stored into another that it makes.
+pub fn made_are_stored()
+    ensures { MadeAreStored }
 {}

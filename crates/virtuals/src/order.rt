@@ -1,14 +1,14 @@
 //! The order in which virtual objects are made and filled.
 
-ghost use Rattle.std.specs.Prelude.{◌≡◌, ◌<◌, ◌^◌, ◌++◌, nat_eq, map, length, All, IfOk, OnOk};
-ghost use Rattle.std.specs.List.{list_any};
+ghost use Rattle.std.specs.Prelude.{◌≡◌, ◌<◌, ◌^◌, ◌++◌, map, length, All, IfOk, OnOk};
 ghost use Rattle.virtuals.specs.Shapes.{parts_of, IsLive, IsSound};
-ghost use Rattle.virtuals.specs.Order.{added as added_to, added_part as added_one, added_parts as added_each, fills_from, all_fills, AreMarks, IsBelow, AreBelow, IsReach};
+ghost use Rattle.virtuals.specs.Order.{added as added_to, added_part as added_one, added_parts as added_each, fills_from, all_fills, AreMarks, IsReach};
 ghost use Rattle.virtuals.specs.declared.order.Forced.TheVariants.{Make, Fill};
 
 use crate::shapes::is_zero;
 use smallvec::SmallVec;
 use std::alloc::{AllocError, Global};
+use std::collections::HashSet;
 use trace_ops::{Shape, Val};
 
 /// A step of forcing: an object is made with parts that are 0 or NULL, or the part of that index of an object gets its value.
@@ -18,29 +18,29 @@ pub enum Forced {
     Fill(u32, u32, Val),
 }
 
-// The virtual object is among those that are to be made. A mark by its number says whether it is already.
-fn add(work: &mut SmallVec<u32, 8>, marks: &mut Vec<bool>, id: u32) -> Result<(), AllocError>
-    requires below { id < length marks.old.items }
-    requires told { AreMarks work.old.items marks.old.items }
+// The virtual object is among those that are to be made. A mark says whether it is already.
+fn add(work: &mut SmallVec<u32, 8>, marks: &mut HashSet<u32>, id: u32) -> Result<(), AllocError>
+    requires { AreMarks work.old.items marks.old.keys }
     ensures listed { OnOk result (work.new.items ≡ added_to work.old.items id) }
-    ensures marked { OnOk result (AreMarks work.new.items marks.new.items) }
-    ensures count { OnOk result (length marks.new.items ≡ length marks.old.items) }
+    ensures marked { OnOk result (AreMarks work.new.items marks.new.keys) }
 {
-    if marks[id as usize] {
+    if marks.contains(&id) {
         return Ok(());
     }
     work.push(id)?;
-    marks[id as usize] = true;
+    marks.insert(id)?;
     Ok(())
 }
 
 // The same of a part that is a virtual object.
-fn add_part(work: &mut SmallVec<u32, 8>, marks: &mut Vec<bool>, part: Val) -> Result<(), AllocError>
-    requires below { IsBelow (length marks.old.items) part }
-    requires told { AreMarks work.old.items marks.old.items }
+fn add_part(
+    work: &mut SmallVec<u32, 8>,
+    marks: &mut HashSet<u32>,
+    part: Val,
+) -> Result<(), AllocError>
+    requires { AreMarks work.old.items marks.old.keys }
     ensures listed { OnOk result (work.new.items ≡ added_one work.old.items part) }
-    ensures marked { OnOk result (AreMarks work.new.items marks.new.items) }
-    ensures count { OnOk result (length marks.new.items ≡ length marks.old.items) }
+    ensures marked { OnOk result (AreMarks work.new.items marks.new.keys) }
 {
     match part {
         Val::Known(_) => Ok(()),
@@ -51,14 +51,12 @@ fn add_part(work: &mut SmallVec<u32, 8>, marks: &mut Vec<bool>, part: Val) -> Re
 // The same of each part.
 fn add_parts(
     work: &mut SmallVec<u32, 8>,
-    marks: &mut Vec<bool>,
+    marks: &mut HashSet<u32>,
     parts: &[Val],
 ) -> Result<(), AllocError>
-    requires below { AreBelow (length marks.old.items) parts.now }
-    requires told { AreMarks work.old.items marks.old.items }
+    requires { AreMarks work.old.items marks.old.keys }
     ensures listed { OnOk result (work.new.items ≡ added_each work.old.items parts.now) }
-    ensures marked { OnOk result (AreMarks work.new.items marks.new.items) }
-    ensures count { OnOk result (length marks.new.items ≡ length marks.old.items) }
+    ensures marked { OnOk result (AreMarks work.new.items marks.new.keys) }
 {
     for part in parts {
         add_part(work, marks, *part)?;
@@ -85,7 +83,7 @@ pub fn reachable(
     ensures { IfOk result (λ made. IsReach shapes.now id made.items) }
 {
     let mut work = SmallVec::new(alloc);
-    let mut marks = vec![in alloc; false; shapes.len()]?;
+    let mut marks = HashSet::new(alloc);
     add(&mut work, &mut marks, id)?;
     let mut done = 0;
     while done < work.len() {

@@ -2,6 +2,7 @@
 
 ghost use Rattle.std.specs.Prelude.{◌≡◌, ◌<◌, map, length, IfOk};
 ghost use Rattle.std.specs.Option.{option_map};
+ghost use Rattle.virtuals.specs.Namings.{namings, IsAtLeast};
 ghost use Rattle.virtuals.specs.Shapes.{zero_of as zero, is_zero as is_zero_part, set_part, instead as box_instead, renamed as with_box, HasPart};
 
 use std::alloc::{AllocError, Global};
@@ -101,12 +102,33 @@ fn renamed(shape: Option<Shape>, id: u32, to: BoxId) -> Option<Shape>
     }
 }
 
-/// The same in each shape.
-pub fn rename_all(shapes: &mut Vec<Option<Shape>>, id: u32, to: BoxId)
+// The same in each shape.
+fn rename_all(shapes: &mut Vec<Option<Shape>>, id: u32, to: BoxId)
     ensures { shapes.new.items ≡ map (option_map (with_box id to)) shapes.old.items }
 {
     for k in 0..shapes.len() {
         let shape = shapes[k].take();
         shapes[k] = renamed(shape, id, to);
     }
+}
+
+/// The same in each shape, where so many parts name the object.
+pub fn rename_named(shapes: &mut Vec<Option<Shape>>, count: u32, id: u32, to: BoxId)
+    requires { IsAtLeast count (namings id shapes.old.items) }
+    ensures { shapes.new.items ≡ map (option_map (with_box id to)) shapes.old.items }
+{
+    if count > 0 {
+        rename_all(shapes, id, to);
+    }
+}
+
+/// Copies of the shapes, none of them forced.
+pub fn copied(alloc: Global, shapes: &[Shape]) -> Result<Vec<Option<Shape>>, AllocError>
+    ensures { IfOk result (λ out. out.items ≡ map Some shapes.now) }
+{
+    let mut out = Vec::with_capacity(alloc, shapes.len())?;
+    for shape in shapes {
+        out.push(Some(shape.copy()?))?;
+    }
+    Ok(out)
 }

@@ -1,12 +1,13 @@
 //! The virtual objects that were made, by number.
 
-ghost use Rattle.std.specs.Prelude.{◌≡◌, ◌+◌, ◌<◌, ◌^◌, [], ◌∷◌, ◌++◌, None, Some, IsSome, map, length, slice_get, slice_set, IfOk, OnOk, OnErr};
+ghost use Rattle.std.specs.Prelude.{◌≡◌, ℕ, ◌+◌, ◌<◌, ◌^◌, [], ◌∷◌, ◌++◌, None, Some, IsSome, map, length, slice_get, slice_set, IfOk, OnOk, OnErr};
 ghost use Rattle.std.specs.Option.{option_map};
-ghost use Rattle.virtuals.specs.Shapes.{fresh, part_at, put_part, forced as forced_in, IsLive, IsMade, IsSound, StayLive, OthersStayLive};
+ghost use Rattle.virtuals.specs.Shapes.{fresh, part_at, put_part, forced as forced_in, AreShapes, IsLive, IsMade, IsSound, StayLive, OthersStayLive};
 ghost use Rattle.virtuals.specs.Order.{IsOrder};
 
+use crate::counting::{add, counted, fewer, more, without};
 use crate::order::{Forced, fills, reachable};
-use crate::shapes::{rename_all, with_part, zeros};
+use crate::shapes::{copied, rename_named, with_part, zeros};
 use std::alloc::{AllocError, Global};
 use std::marker::Model;
 use trace_ops::{BoxId, Kind, List, Shape, ShapeOf, Val};
@@ -16,18 +17,20 @@ use trace_ops::{BoxId, Kind, List, Shape, ShapeOf, Val};
 pub struct Virtuals {
     alloc: Global,
     shapes: Vec<Option<Shape>>,
+    // how many parts name each
+    counts: Vec<u32>,
 }
 
 impl Model for Virtuals {
     ghost use Rattle.std.specs.Prelude.{List, Option};
     ghost use Rattle.trace_ops.specs.declared.piece.Shape.{Shape};
-    ghost use Rattle.virtuals.specs.Shapes.{IsSound};
+    ghost use Rattle.virtuals.specs.Namings.{AreKept};
 
     ghost Value = { List (Option Shape) };
 
     ghost view = { λ v. v.shapes.items };
 
-    ghost invariant = { λ v. IsSound v.shapes.items };
+    ghost invariant = { λ v. AreKept v.shapes.items v.counts.items };
 }
 
 impl Virtuals {
@@ -38,6 +41,22 @@ impl Virtuals {
         Ok(Virtuals {
             alloc,
             shapes: Vec::new(alloc),
+            counts: Vec::new(alloc),
+        })
+    }
+
+    /// These virtual objects, each numbered by its place.
+    pub fn of_shapes(alloc: Global, shapes: &[Shape]) -> Result<Virtuals, AllocError>
+        requires { AreShapes shapes.now }
+        ensures ok { IfOk result (λ virtuals. virtuals ≡ map Some shapes.now) }
+        ensures live { IfOk result (λ virtuals. (n : ℕ) → n < length shapes.now → IsLive virtuals n) }
+    {
+        let counts = counted(alloc, shapes)?;
+        let shapes = copied(alloc, shapes)?;
+        Ok(Virtuals {
+            alloc,
+            shapes,
+            counts,
         })
     }
 
@@ -56,10 +75,11 @@ impl Virtuals {
         }
         let parts = zeros(self.alloc, kinds)?;
         let id = self.shapes.len() as u32;
-        self.shapes.push(Some(Shape {
+        let shape = Shape {
             of,
             parts: List::of(parts),
-        }))?;
+        };
+        add(&mut self.shapes, &mut self.counts, shape)?;
         Ok(id)
     }
 
@@ -86,24 +106,28 @@ impl Virtuals {
         ensures now { self.new ≡ put_part id part value self.old }
         ensures live { StayLive self.old self.new }
     {
+        let was = self.get(id, part);
+        more(&mut self.counts, value);
+        fewer(&mut self.counts, was);
         let shape = self.shapes[id as usize].take();
         self.shapes[id as usize] = with_part(shape, part, value);
     }
 
     /// The virtual object is this box from now on: it has no shape, and each part that named it is the box. The time is
-    /// linear in all parts.
+    /// linear in its own parts where no other object's part names it, and else in all parts.
     pub fn forced(&mut self, id: u32, to: BoxId)
         requires { IsLive self.old id }
         ensures now { self.new ≡ forced_in id to self.old }
         ensures live { OthersStayLive id self.old self.new }
     {
-        rename_all(&mut self.shapes, id, to);
-        self.shapes[id as usize] = None;
+        let shape = self.shapes[id as usize].take();
+        without(&mut self.counts, &shape);
+        rename_named(&mut self.shapes, self.counts[id as usize], id, to);
     }
 
     /// What makes the virtual object and all that it leads to: each is made once, before any part is filled, and then the
-    /// parts other than 0 and NULL are filled, in part order. Cycles are lawful. The time is linear in the virtual objects
-    /// made so far and in the parts of those that are forced.
+    /// parts other than 0 and NULL are filled, in part order. Cycles are lawful. The time is linear in the parts of
+    /// those that are forced.
     pub fn force_order(&self, id: u32) -> Result<Vec<Forced>, AllocError>
         requires { IsLive self.now id }
         ensures order { IfOk result (λ order. IsOrder self.now id order.items) }

@@ -1,9 +1,7 @@
 use Rattle.std.proofs.Common.{◌≡◌, ℕ, ◌+◌, ◌<◌, ◌≤◌, List, Some, length, slice_get, get_or, ap, sym, subst, ◌∙◌, arith}
 use Rattle.std.proofs.lemmas.Option.{slice_get-get_or}
-use Rattle.virtuals.specs.Shapes.{parts_of}
-use Rattle.virtuals.specs.Order.{IsSearch, AreBelow, added_parts}
+use Rattle.virtuals.specs.Order.{IsSearch, added_parts}
 use Rattle.virtuals.proofs.Lists.{has_get}
-use Rattle.virtuals.proofs.Marks.{parts_below}
 use Rattle.virtuals.proofs.Search.{search_goes, search_ends, search_fits}
 use Rattle.virtuals.proofs.order.reachable.Goals as goal
 
@@ -16,12 +14,6 @@ parts_at-requires c =
     let work = c.loop-done.work.items in
     let within : c.loop-done.done < length work = omega (arith, c.len.ensures.value, c.loop-done-test.true) in
     c.loop-done.invariant.found.live _ (has_get work c.loop-done.done _ (next_at work c.as_slice.result.now c.loop-done.done within c.as_slice.ensures))
-
-pub add_parts-requires-clause-below : goal.add_parts-requires-clause-below
-add_parts-requires-clause-below c =
-    let shapes = c.args.shapes.now in let next = get_or c.as_slice.result.now c.loop-done.done 0 in
-    subst (AreBelow (length c.loop-done.marks.items)) (sym c.parts_at.ensures)
-    (subst (λ (count : ℕ). AreBelow count (parts_of shapes next)) (sym c.loop-done.invariant.count) (parts_below shapes next c.requires.sound))
 
 pub loop-done-smaller : goal.loop-done-smaller
 loop-done-smaller c =
@@ -37,7 +29,6 @@ loop-done-preserved c =
       found = subst (IsSearch shapes c.args.id (done + 1)) (sym (c.in_ok-add_parts.ensures.listed ∙ ap (added_parts work) c.parts_at.ensures))
           (search_goes shapes c.args.id done (get_or c.as_slice.result.now done 0) work c.requires.sound c.loop-done.invariant.found (next_at work c.as_slice.result.now done within c.as_slice.ensures));
       marked = c.in_ok-add_parts.ensures.marked;
-      count = c.in_ok-add_parts.ensures.count ∙ c.loop-done.invariant.count;
     }
 
 pub returns : goal.returns

@@ -1,12 +1,11 @@
-use Rattle.std.proofs.Common.{◌≡◌, ◌-◌, length}
+use Rattle.std.proofs.Common.{◌-◌, length}
 use Rattle.virtuals.specs.Order.{IsSearch, AreMarks}
 use Rattle.virtuals.proofs.order.reachable.Given as goal
 
 abbrev pub invariant-loop-done : goal.invariant-loop-done
 invariant-loop-done l = record {
   found : IsSearch l.shapes l.fn.id l.done l.work.items;
-  marked : AreMarks l.work.items l.marks.items;
-  count : length l.marks.items ≡ length l.shapes;
+  marked : AreMarks l.work.items l.marks.keys;
 }
 
 abbrev pub decreases-loop-done : goal.decreases-loop-done

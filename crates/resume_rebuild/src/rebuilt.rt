@@ -211,12 +211,15 @@ impl Rebuilt {
         })
     }
 
-    /// Keeps what is to be known of the shapes of a table.
+    /// Keeps what is to be known of the shapes of a table. For 2^32 shapes there are no header numbers: that is want of memory.
     pub fn adopt(&mut self, table: &Table) -> Result<(), AllocError>
-        requires { length table.now.shapes < 2 ^ 32 }
         ensures ok { OnOk result (self.new ≡ record self.old { table = table.now }) }
+        ensures few { OnOk result (length table.now.shapes < 2 ^ 32) }
         ensures err { OnErr result (self.new ≡ self.old) }
     {
+        if table.shapes.items().len() >= 0x1_0000_0000 {
+            return Err(AllocError);
+        }
         let headers = Headers::new(self.alloc, table)?;
         let copy = table.copy()?;
         self.table = copy;

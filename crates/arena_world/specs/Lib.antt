@@ -1,0 +1,5 @@
+pub mod Prebuilt
+pub mod View
+pub mod Fitting
+pub mod Answering
+pub mod Laws

@@ -44,3 +44,5 @@ pub mod Appends
 pub mod Needing
 pub mod Planned
 pub mod Selection
+pub mod Rekeying
+pub mod Fitting

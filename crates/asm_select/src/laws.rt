@@ -6,6 +6,7 @@ ghost use Rattle.asm_select.specs.Ended.{CodeFollows};
 ghost use Rattle.asm_select.specs.Asked.{CallsFollow, AllocationsLeave, PieceComes};
 ghost use Rattle.asm_select.specs.Exited.{StubExits, JumpsEnter, PieceLands, StretchesGoOn, LabelHolds, LabelStands, JumpBegins, BridgeBegins, StartFits};
 ghost use Rattle.asm_select.specs.Suited.{SoundPiecesSuit, TablesServe, TableNumbersFit, PrebuiltsStayPut, ObjectResultHolds, ObjectStoreHolds};
+ghost use Rattle.asm_select.specs.Fitting.{SelectedFits};
 ghost use Rattle.asm_select.specs.Laid.{ChosenHaveRows, ExitsHaveRows, ChosenAreShort, SlotsStand, SlotsAreWhole};
 
 use arena_objects::{
@@ -32,6 +33,14 @@ pub fn labels_serve()
 pub fn sound_pieces_suit()
     ensures { SoundPiecesSuit }
 {}
+
+/// What [`crate::select`] gives for a sound piece is such as the laws below ask for, whatever the first operation's key is,
+/// where the table is in range and constants are words.
+pub fn selected_fits()
+    ensures { SelectedFits }
+{
+    boxes_live();
+}
 
 /// Header numbers and addresses of a table in range fit instructions, and prebuilt objects stay where they are.
 pub fn tables_fit()

@@ -46,3 +46,4 @@ pub mod Planned
 pub mod Selection
 pub mod Rekeying
 pub mod Fitting
+pub mod Answering

@@ -49,10 +49,10 @@ use Rattle.target_base.specs.declared.place.Place.{Place}
 use Rattle.arena_objects.specs.Layout.{address_of, word_of}
 use Rattle.arena_objects.specs.Standing.{IsPart, IsLawful, HasItsParts, Stands}
 use Rattle.arena_objects.specs.Making.{arena_with}
-use Rattle.arena_objects.specs.ReadBack.{reference_to}
+use Rattle.arena_objects.specs.ReadBack.{reference_to, objects_in}
 use Rattle.arena_objects.specs.Spots.{spot_offset}
 use Rattle.arena_objects.specs.Walk.{object_at}
-use Rattle.arena_objects.specs.Laws.{AllocationsStand, AllocationsAddress, SpotsAreWritten, ReferencesAreRead}
+use Rattle.arena_objects.specs.Laws.{AllocationsStand, AllocationsAddress, SpotsAreWritten, ReferencesAreRead, ObjectsAreReadBack, KindsInRange}
 use Rattle.x64_machine.specs.State.{State}
 use Rattle.asm_select.specs.Valued.{value}
 use Rattle.asm_select.specs.Chosen.{Setting, arg_places, places_for}
@@ -62,7 +62,7 @@ use Rattle.asm_select.specs.Asked.{AtCall, AsksAs, HostLeft, given_in}
 use Rattle.asm_select.specs.declared.form.Access.TheVariants as access
 use Rattle.trace_ops.specs.declared.trace.Arg.TheVariants.{Func}
 use Rattle.trace_ops.specs.declared.trace.Descr.TheVariants as descr
-use Rattle.asm_select.specs.Answering.{asked_words, reference_words, values_read, address_from, word_given, store_made, stores_made, object_made, bytes_given, answer_made, call_of, ArgumentsAreRead, AnswersAreTaken, AnswersLeave}
+use Rattle.asm_select.specs.Answering.{asked_words, reference_words, values_read, address_from, word_given, store_made, stores_made, object_made, bytes_given, answer_made, call_of, ArgumentsAreRead, EventsAreShown, AnswersAreTaken, AnswersLeave}
 use Rattle.asm_select.proofs.Performing.{word_fits}
 use Rattle.asm_select.proofs.Relying.{Relied}
 use Rattle.asm_select.proofs.Suiting.{contains_at}
@@ -502,6 +502,13 @@ arguments_are_read reads c operation r f k args env q u row vs h at w kinds =
     let asks = asked_so c operation r f k args env q u vs h at w in
     subst (λ (ks : List Kind). values_read c.table u.arena ks (asked_words u args) ≡ vs) kinds
     (all_read reads c.table env.world.objects u.arena u (places_for args arg_places) vs at.arena asks.1 asks.2)
+
+pub events_are_shown : ReferencesAreRead → ObjectsAreReadBack → KindsInRange → EventsAreShown
+events_are_shown reads back kinds_in c operation r f k args env q u row vs gives h range holds at w kinds =
+    let t = c.table in
+    let there : objects_in t u.arena ≡ env.world.objects = back t env.world.objects u.arena at.arena holds (kinds_in t env.world.objects u.arena range at.arena) in
+    ap (λ (xs : List Value). event_of t row f xs gives (record env.world { objects = objects_in t u.arena })) (arguments_are_read reads c operation r f k args env q u row vs h at w kinds)
+    ∙ ap (λ (os : List Object). event_of t row f vs gives (record env.world { objects = os })) there
 
 pub answers_leave : Relied → AllocationsStand → AllocationsAddress → AnswersLeave
 answers_leave relied stand address c operation r f k args env after q u row vs a h range at g e w kinds first gives room =

@@ -22,14 +22,16 @@ use Rattle.trace_meaning.specs.declared.call.AnswerStore.{AnswerStore}
 use Rattle.trace_meaning.specs.declared.call.Answer.{Answer}
 use Rattle.trace_meaning.specs.Answers.{fits}
 use Rattle.trace_meaning.specs.Legs.{On}
+use Rattle.trace_meaning.specs.Kinds.{ObjectsHold}
 use Rattle.trace_meaning.specs.Objects.{zeroed}
+use Rattle.trace_meaning.specs.Performing.{event_of}
 use Rattle.trace_meaning.specs.Sound.{AnswersWords}
 use Rattle.trace_meaning.specs.Values.{kind_of_value, references}
 use Rattle.opt_meaning.specs.Step.{Opt, opt_step, opt_values}
 use Rattle.target_base.specs.Arena.{Arena, with_arena_word}
 use Rattle.arena_objects.specs.Layout.{words_in}
 use Rattle.arena_objects.specs.Making.{arena_with}
-use Rattle.arena_objects.specs.ReadBack.{value_of}
+use Rattle.arena_objects.specs.ReadBack.{value_of, objects_in}
 use Rattle.arena_objects.specs.Spots.{spot_offset}
 use Rattle.x64_machine.specs.State.{State}
 use Rattle.asm_select.specs.Valued.{value}
@@ -99,6 +101,13 @@ ArgumentsAreRead =
     (c : Setting) (operation : OpCode) (r : Option BoxId) (f k : ℕ) (args : List Arg) (env : Opt) (q : ℕ) (u : State) (row : CallRow) (vs : List Value)
     → IsTrue (is_call operation) → AtCall c (call_of operation r f args k) env q u → opt_values env args ≡ Some vs → map kind_of_value vs ≡ row.args
     → values_read c.table u.arena row.args (asked_words u args) ≡ vs
+
+-- so the event of a call, of which the host reads arguments and objects, is that of the piece
+abbrev pub EventsAreShown : Type 0
+EventsAreShown =
+    (c : Setting) (operation : OpCode) (r : Option BoxId) (f k : ℕ) (args : List Arg) (env : Opt) (q : ℕ) (u : State) (row : CallRow) (vs : List Value) (gives : Option Value)
+    → IsTrue (is_call operation) → IsTableInRange c.table → ObjectsHold c.table env.world.objects → AtCall c (call_of operation r f args k) env q u → opt_values env args ≡ Some vs → map kind_of_value vs ≡ row.args
+    → event_of c.table row f (values_read c.table u.arena row.args (asked_words u args)) gives (record env.world { objects = objects_in c.table u.arena }) ≡ event_of c.table row f vs gives env.world
 
 -- a call goes on exactly by the first answer that is left, and only where it fits
 abbrev pub AnswersAreTaken : Type 0

@@ -38,7 +38,6 @@ pub mod Started
 pub mod Examples
 pub mod Anys
 pub mod Passed
-pub mod Prebuilts
 pub mod Pushes
 pub mod Appends
 pub mod Needing
@@ -47,3 +46,4 @@ pub mod Selection
 pub mod Rekeying
 pub mod Fitting
 pub mod Answering
+pub mod Preceding

@@ -7,6 +7,7 @@ mod codes;
 mod context;
 mod draft;
 mod form;
+mod known_table;
 mod laws;
 mod lone;
 mod moves;

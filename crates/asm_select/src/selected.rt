@@ -8,6 +8,7 @@ ghost use Rattle.asm_select.specs.Fitting.{IsShort};
 
 use crate::context::Context;
 use crate::draft::Draft;
+use crate::known_table::KnownTable;
 use crate::plan::plan_moves;
 use crate::told::{Told, told_by};
 use linear_scan::{Live, Places, boxes_live, numbered_boxes_are_defined, ranges};
@@ -44,7 +45,8 @@ fn choose(alloc: Global, c: &Context, lives: &[Live], ops: &[OptOp]) -> Result<S
 /// The instructions of a sound piece of a set, over the places that [`linear_scan::allocate`] gave for it. `to` has the
 /// places of the label to which its jump goes, and is empty without a jump: they are distinct, registers for values or
 /// frame words from 16 on, and these and those of `places` are together at most 1,048,320. A finish is a jump to its
-/// exit's stub. With the stubs of its exits, a piece has at most 32 bytes for each unit of its size. Takes time linear in the piece, where a look-up in the table counts as one.
+/// exit's stub. With the stubs of its exits, a piece has at most 32 bytes for each unit of its size. Takes time linear in
+/// the piece and in the table.
 pub fn select(
     alloc: Global,
     set: &TraceSet,
@@ -63,8 +65,9 @@ pub fn select(
     let ops = piece.ops.items();
     let lives = ranges(alloc, piece)?;
     let plan = plan_moves(alloc, at, to, ops)?;
+    let table = KnownTable::new(alloc, &set.table)?;
     let context = Context {
-        table: &set.table,
+        table: &table,
         at,
         to,
         plan: &plan,

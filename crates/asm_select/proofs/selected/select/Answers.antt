@@ -21,7 +21,7 @@ pub returns : goal.returns
 returns c =
     let code =
     if_ok c.choose.result _ _
-    (λ s h. selected c.args.set.now c.args.piece.now c.args.places.now c.args.to.now c.items-at.result.now c.items-ops.result.now c.in_ok-plan.plan.items c.deref.result.now s c.items-at.ensures c.items-ops.ensures c.deref.ensures.value c.in_ok-plan.ensures h)
+    (λ s h. selected c.args.set.now c.args.piece.now c.args.places.now c.args.to.now c.in_ok-table.table c.items-at.result.now c.items-ops.result.now c.in_ok-plan.plan.items c.deref.result.now s c.in_ok-table.ensures c.items-at.ensures c.items-ops.ensures c.deref.ensures.value c.in_ok-plan.ensures h)
     c.choose.ensures in
     record {
       code = code;

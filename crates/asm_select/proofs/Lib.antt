@@ -38,9 +38,12 @@ pub mod Started
 pub mod Examples
 pub mod Anys
 pub mod Passed
-pub mod Prebuilts
 pub mod Pushes
 pub mod Appends
 pub mod Needing
 pub mod Planned
 pub mod Selection
+pub mod Rekeying
+pub mod Fitting
+pub mod Answering
+pub mod Preceding

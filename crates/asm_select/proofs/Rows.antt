@@ -349,6 +349,7 @@ guard_rows most by c k told code.GuardClass (a ∷ Class n ∷ []) near m w h = 
 guard_rows most by c k told code.GuardNonnullClass (a ∷ Class n ∷ []) near m w h = leave_row by (nonnull_class_code (operand_of c a) (header_of c.table (Size n))) cc_is.Ne k near (nonnull_classes_rows most (operand_of c a) (header_of c.table (Size n)) (arg_reads c a m (w 0 a (omega arith))) (w 1 (Class n) (omega arith)).0)
 guard_rows most by c k told code.GuardNoOverflow args near m w h = (near k, tt)
 guard_rows most by c k told code.GuardOverflow args near m w h = (near k, tt)
+guard_rows most by c k told code.GuardNoException args near m w h = tt
 guard_rows most by c k told _ args near m w h = absurd h
 
 -- ---- jumps

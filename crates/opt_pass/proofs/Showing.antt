@@ -1,0 +1,275 @@
+-- What the piece is so far, besides what it does.
+use Rattle.std.proofs.Common.{◌≡◌, ℕ, zero, suc, ◌+◌, ◌≤◌, ◌<◌, Bool, true, false, cond, List, [], ◌∷◌, ◌++◌, Some, length, map, slice_get, take, refl, sym, ap, ◌∙◌, subst, append_assoc, arith, inl, inr}
+use Rattle.std.specs.Prelude.{◌⊎◌, ◌-◌}
+use Rattle.std.specs.List.{AllByRecursion, AllZip, flat_map, sum_by}
+use Rattle.std.proofs.lemmas.List.Sums.{sum_by-cons, sum_by-append, sum_by-take-le}
+use Rattle.lists.proofs.Eaches.{each_append}
+use Rattle.lists.proofs.Zips.{zip_append}
+use Rattle.lists.proofs.Options.{some_same, none_some}
+use Rattle.trace_ops.specs.declared.trace.BoxId.{BoxId}
+use Rattle.trace_ops.specs.declared.trace.Op.{Op}
+use Rattle.trace_ops.specs.declared.table.Table.{Table}
+use Rattle.trace_ops.specs.declared.table.ShapeOf.{ShapeOf}
+use Rattle.trace_ops.specs.declared.table.ShapeOf.TheVariants as shape
+use Rattle.trace_ops.specs.declared.piece.Val.{Val}
+use Rattle.trace_ops.specs.declared.piece.Val.TheVariants.{Known, Virtual}
+use Rattle.trace_ops.specs.declared.trace.Arg.TheVariants as arg
+use Rattle.trace_ops.specs.declared.piece.Shape.{Shape}
+use Rattle.trace_ops.specs.declared.piece.Spot.{Spot}
+use Rattle.trace_ops.specs.declared.piece.Spot.TheVariants as spot
+use Rattle.trace_ops.specs.declared.piece.Pending.{Pending}
+use Rattle.trace_ops.specs.declared.piece.PieceId.{PieceId}
+use Rattle.trace_ops.specs.declared.piece.OptOp.{OptOp}
+use Rattle.trace_ops.specs.declared.piece.OptOp.TheVariants as opt
+use Rattle.trace_ops.specs.declared.piece.Entry.{Entry}
+use Rattle.trace_ops.specs.Facts.{part_of}
+use Rattle.trace_ops.specs.Pieces.{is_end, results_of}
+use Rattle.std.proofs.lemmas.List.{length-append}
+use Rattle.trace_ops.specs.Rules.{ends}
+use Rattle.agreement.specs.Making.{is_zero}
+use Rattle.agreement.specs.Spots.{items_from, spots_of}
+use Rattle.trace_meaning.specs.Objects.{fields_of}
+use Rattle.opt_meaning.specs.Admits.{plain_entry}
+use Rattle.opt_pass.specs.declared.start.Entering.{Entering}
+use Rattle.opt_pass.specs.declared.state.Pass.{Pass}
+use Rattle.opt_pass.specs.Starting.{made_box, entered_val, entering, making, makings, fill, fills, fills_of, all_fills, entered_store, stores_entered, known_arg, storing_at, storing, entry_ops, started}
+use Rattle.opt_pass.specs.Contract.{kept_of, IsEntryAt, HasEntries, IsEnd, GoesOn, EndsWith, own_size, making_cost, filling_cost, part_cost, shape_cost, spot_cost, store_cost, cost_of}
+use Rattle.opt_pass.specs.Keeping.{IsBare, Goes, IsEndingBy, IsEnding, Printed, weight_from, EndsLast, Shows}
+
+-- Sums and lists one behind the other
+
+flat_both : {X Y : Type 0} (f : X → List Y) (xs ys : List X) → flat_map f (xs ++ ys) ≡ flat_map f xs ++ flat_map f ys
+flat_both f [] ys = refl
+flat_both f (x ∷ xs) ys = ap (λ zs. f x ++ zs) (flat_both f xs ys) ∙ sym (append_assoc (f x) (flat_map f xs) (flat_map f ys))
+
+-- What is printed first
+
+record IsFirst (ops : List OptOp) (cost : ℕ) : Type 0 where
+  goes : AllByRecursion GoesOn ops
+  none : flat_map kept_of ops ≡ []
+  small : sum_by own_size ops ≤ cost
+
+abbrev results : List OptOp → ℕ
+results ops = length (flat_map results_of ops)
+
+results_both : (xs ys : List OptOp) → results (xs ++ ys) ≡ results xs + results ys
+results_both xs ys = ap length (flat_both results_of xs ys) ∙ length-append (flat_map results_of xs) (flat_map results_of ys)
+
+first_both : (xs ys : List OptOp) (m n : ℕ) → IsFirst xs m → IsFirst ys n → IsFirst (xs ++ ys) (m + n)
+first_both xs ys m n h k = record {
+  goes = each_append GoesOn xs ys h.goes k.goes;
+  none = flat_both kept_of xs ys ∙ ap (λ zs. zs ++ flat_map kept_of ys) h.none ∙ k.none;
+  small = let e : sum_by own_size (xs ++ ys) ≡ sum_by own_size xs + sum_by own_size ys = sum_by-append own_size xs ys in omega (arith, e, h.small, k.small);
+}
+
+first_none : IsFirst [] 0
+first_none = record { goes = tt; none = refl; small = omega arith }
+
+making_first : (t : Table) (b : BoxId) (of : ShapeOf) (n : ℕ) → IsFirst (making t b of n ∷ []) (making_cost of)
+making_first t b (shape.Size s) n = record { goes = (tt, tt); none = refl; small = omega arith }
+making_first t b (shape.Array a) n = record { goes = (tt, tt); none = refl; small = omega arith }
+
+makings_first : (t : Table) (label k : ℕ) (ss : List Shape) → IsFirst (makings t label k ss) (sum_by (λ (s : Shape). making_cost s.of) ss)
+makings_first t label k [] = first_none
+makings_first t label k (s ∷ ss) = subst (IsFirst (makings t label k (s ∷ ss))) (sym (sum_by-cons (λ (s : Shape). making_cost s.of) s ss)) (first_both (making t (made_box label k) s.of (length s.parts) ∷ []) (makings t label (k + 1) ss) (making_cost s.of) (sum_by (λ (s : Shape). making_cost s.of) ss) (making_first t (made_box label k) s.of (length s.parts)) (makings_first t label (k + 1) ss))
+
+one_store : (p : Pending) → IsFirst (storing p ∷ []) (spot_cost p.spot)
+one_store p = by p.spot
+  where
+    by : (at : Spot) → IsFirst (storing_at at p.base (known_arg p.value) ∷ []) (spot_cost at)
+    by (spot.Field f) = record { goes = (tt, tt); none = refl; small = omega arith }
+    by (spot.Item a i) = record { goes = (tt, tt); none = refl; small = omega arith }
+
+stores_first : (ps : List Pending) → IsFirst (map storing ps) (sum_by store_cost ps)
+stores_first [] = first_none
+stores_first (p ∷ ps) = subst (IsFirst (map storing (p ∷ ps))) (sym (sum_by-cons store_cost p ps)) (first_both (storing p ∷ []) (map storing ps) (spot_cost p.spot) (sum_by store_cost ps) (one_store p) (stores_first ps))
+
+entered_cost : (n : Entering) (ps : List Pending) → sum_by store_cost (map (entered_store n) ps) ≡ sum_by store_cost ps
+entered_cost n [] = refl
+entered_cost n (p ∷ ps) = sum_by-cons store_cost (entered_store n p) (map (entered_store n) ps) ∙ ap (λ z. spot_cost p.spot + z) (entered_cost n ps) ∙ sym (sum_by-cons store_cost p ps)
+
+-- the spots of a shape cost what its parts do
+abbrev IsAt : ShapeOf → Spot → Type 0
+IsAt of at = spot_cost at ≡ filling_cost of
+
+fields_at : (s : ℕ) (fields : List ℕ) → AllByRecursion (IsAt (shape.Size s)) (map (λ f. spot.Field f) fields)
+fields_at s [] = tt
+fields_at s (f ∷ fields) = (refl, fields_at s fields)
+
+items_at : (a i n : ℕ) → AllByRecursion (IsAt (shape.Array a)) (items_from a i n)
+items_at a i zero = tt
+items_at a i (suc n) = (refl, items_at a (i + 1) n)
+
+spots_at : (t : Table) (of : ShapeOf) (n : ℕ) → AllByRecursion (IsAt of) (spots_of t of n)
+spots_at t (shape.Size s) n = fields_at s (fields_of t s)
+spots_at t (shape.Array a) n = items_at a 0 n
+
+zero_stays : (n : Entering) (x : Val) → is_zero x ≡ true → is_zero (entered_val n x) ≡ true
+zero_stays n (Known (arg.Of b)) e = absurd (false_true e)
+  where
+    false_true : false ≡ true → ⊥
+    false_true e = cc
+zero_stays n (Known (arg.Const z)) e = e
+zero_stays n (Known arg.Null) e = e
+zero_stays n (Known (arg.Class k)) e = e
+zero_stays n (Known (arg.Func k)) e = e
+zero_stays n (Known (arg.Ptr k)) e = e
+zero_stays n (Virtual k) e = absurd (false_true e)
+  where
+    false_true : false ≡ true → ⊥
+    false_true e = cc
+
+fill_cost : (n : Entering) (of : ShapeOf) (b : BoxId) (at : Spot) (x : Val) → IsAt of at → sum_by store_cost (fill b at (entered_val n x)) ≤ part_cost of x
+fill_cost n of b at x is = by (is_zero x) (is_zero (entered_val n x)) (zero_stays n x)
+  where
+    by : (q z : Bool) → (q ≡ true → z ≡ true) → sum_by store_cost (cond z [] (record { base = arg.Of b; spot = at; value = entered_val n x } ∷ [])) ≤ cond q 0 (filling_cost of)
+    by true true h = omega arith
+    by false true h = omega arith
+    by false false h = omega (arith, is)
+    by true false h = absurd (false_true (h refl))
+      where
+        false_true : false ≡ true → ⊥
+        false_true e = cc
+
+fills_cost : (n : Entering) (of : ShapeOf) (b : BoxId) (ss : List Spot) (xs : List Val) → AllByRecursion (IsAt of) ss → sum_by store_cost (fills b ss (map (entered_val n) xs)) ≤ sum_by (part_cost of) xs
+fills_cost n of b [] xs h = omega arith
+fills_cost n of b (s ∷ ss) [] h = omega arith
+fills_cost n of b (s ∷ ss) (x ∷ xs) h =
+    let one : sum_by store_cost (fill b s (entered_val n x)) ≤ part_cost of x = fill_cost n of b s x h.0 in
+    let rest : sum_by store_cost (fills b ss (map (entered_val n) xs)) ≤ sum_by (part_cost of) xs = fills_cost n of b ss xs h.1 in
+    let both : sum_by store_cost (fill b s (entered_val n x) ++ fills b ss (map (entered_val n) xs)) ≡ sum_by store_cost (fill b s (entered_val n x)) + sum_by store_cost (fills b ss (map (entered_val n) xs)) = sum_by-append store_cost (fill b s (entered_val n x)) (fills b ss (map (entered_val n) xs)) in
+    let cons : sum_by (part_cost of) (x ∷ xs) ≡ part_cost of x + sum_by (part_cost of) xs = sum_by-cons (part_cost of) x xs in
+    omega (arith, one, rest, both, cons)
+
+all_cost : (t : Table) (n : Entering) (k : ℕ) (ss : List Shape) → sum_by (λ (s : Shape). making_cost s.of) ss + sum_by store_cost (all_fills t n k ss) ≤ sum_by shape_cost ss
+all_cost t n k [] = omega arith
+all_cost t n k (s ∷ ss) =
+    let one : sum_by store_cost (fills_of t n (made_box n.label k) s) ≤ sum_by (part_cost s.of) s.parts = fills_cost n s.of (made_box n.label k) (spots_of t s.of (length s.parts)) s.parts (spots_at t s.of (length s.parts)) in
+    let rest : sum_by (λ (s : Shape). making_cost s.of) ss + sum_by store_cost (all_fills t n (k + 1) ss) ≤ sum_by shape_cost ss = all_cost t n (k + 1) ss in
+    let both : sum_by store_cost (fills_of t n (made_box n.label k) s ++ all_fills t n (k + 1) ss) ≡ sum_by store_cost (fills_of t n (made_box n.label k) s) + sum_by store_cost (all_fills t n (k + 1) ss) = sum_by-append store_cost (fills_of t n (made_box n.label k) s) (all_fills t n (k + 1) ss) in
+    let makes : sum_by (λ (s : Shape). making_cost s.of) (s ∷ ss) ≡ making_cost s.of + sum_by (λ (s : Shape). making_cost s.of) ss = sum_by-cons (λ (s : Shape). making_cost s.of) s ss in
+    let cons : sum_by shape_cost (s ∷ ss) ≡ shape_cost s + sum_by shape_cost ss = sum_by-cons shape_cost s ss in
+    omega (arith, one, rest, both, makes, cons)
+
+makings_results : (t : Table) (label k : ℕ) (ss : List Shape) → results (makings t label k ss) ≤ length ss
+makings_results t label k [] = omega arith
+makings_results t label k (s ∷ ss) =
+    let both : results (making t (made_box label k) s.of (length s.parts) ∷ makings t label (k + 1) ss) ≡ results (making t (made_box label k) s.of (length s.parts) ∷ []) + results (makings t label (k + 1) ss) = results_both (making t (made_box label k) s.of (length s.parts) ∷ []) (makings t label (k + 1) ss) in
+    let one : results (making t (made_box label k) s.of (length s.parts) ∷ []) ≡ 1 = by s.of in
+    let rest : results (makings t label (k + 1) ss) ≤ length ss = makings_results t label (k + 1) ss in
+    omega (arith, both, one, rest)
+  where
+    by : (of : ShapeOf) → results (making t (made_box label k) of (length s.parts) ∷ []) ≡ 1
+    by (shape.Size z) = refl
+    by (shape.Array a) = refl
+
+stores_results : (ps : List Pending) → results (map storing ps) ≡ 0
+stores_results [] = refl
+stores_results (p ∷ ps) = ap length (ap (λ zs. zs ++ flat_map results_of (map storing ps)) (by p.spot)) ∙ stores_results ps
+  where
+    by : (at : Spot) → results_of (storing_at at p.base (known_arg p.value)) ≡ []
+    by (spot.Field f) = refl
+    by (spot.Item a i) = refl
+
+entry_results : (t : Table) (e : Entry) → results (entry_ops t e) ≤ length e.shapes
+entry_results t e =
+    let both : results (entry_ops t e) ≡ results (makings t (length e.label) 0 e.shapes) + results (map storing (stores_entered t e)) = results_both (makings t (length e.label) 0 e.shapes) (map storing (stores_entered t e)) in
+    let makes : results (makings t (length e.label) 0 e.shapes) ≤ length e.shapes = makings_results t (length e.label) 0 e.shapes in
+    let none : results (map storing (stores_entered t e)) ≡ 0 = stores_results (stores_entered t e) in
+    omega (arith, both, makes, none)
+
+entry_first : (t : Table) (e : Entry) → IsFirst (entry_ops t e) (cost_of e)
+entry_first t e =
+    let n : Entering = entering e in
+    let h = first_both (makings t (length e.label) 0 e.shapes) (map storing (stores_entered t e)) (sum_by (λ (s : Shape). making_cost s.of) e.shapes) (sum_by store_cost (stores_entered t e)) (makings_first t (length e.label) 0 e.shapes) (stores_first (stores_entered t e)) in
+    let both : sum_by store_cost (stores_entered t e) ≡ sum_by store_cost (map (entered_store n) e.pending) + sum_by store_cost (all_fills t n 0 e.shapes) = sum_by-append store_cost (map (entered_store n) e.pending) (all_fills t n 0 e.shapes) in
+    let own : sum_by store_cost (map (entered_store n) e.pending) ≡ sum_by store_cost e.pending = entered_cost n e.pending in
+    let made : sum_by (λ (s : Shape). making_cost s.of) e.shapes + sum_by store_cost (all_fills t n 0 e.shapes) ≤ sum_by shape_cost e.shapes = all_cost t n 0 e.shapes in
+    record { goes = h.goes; none = h.none; small = omega (arith, h.small, both, own, made) }
+
+-- So far
+
+abbrev pub Ending : PieceId → Pass → Type 0
+Ending to o = ((o.ended ≡ false) × (o.at_end ≡ plain_entry []) × AllByRecursion GoesOn o.ops) ⊎ ((o.ended ≡ true) × EndsWith to o.at_end o.ops)
+
+pub record Shown (to : PieceId) (e : Entry) (ops : List Op) (n : ℕ) (o : Pass) : Type 0 where
+  pub entries : HasEntries o.ops o.guards
+  pub small : sum_by own_size o.ops ≤ weight_from (take n ops) + cost_of e
+  pub ending : Ending to o
+  pub boxes : length (flat_map results_of o.ops) ≤ length e.shapes + n
+  pub bare : IsBare o.at_end
+  pub held : AllByRecursion (λ x. IsBare x.1) o.guards
+  pub left : (j : ℕ) (op : Op) → n ≡ j + 1 → slice_get ops j ≡ Some op → ends (part_of op.code) ≡ true → o.ended ≡ true
+
+pub shown_start : (t : Table) (inputs : List BoxId) (to : PieceId) (target : List BoxId) (e : Entry) (ops : List Op) → Shown to e ops 0 (started t inputs to target e)
+shown_start t inputs to target e ops = let h = entry_first t e in record {
+  entries = subst (λ z. AllZip IsEntryAt z []) (sym h.none) tt;
+  small = omega (arith, h.small);
+  ending = inl (refl, refl, h.goes);
+  boxes = let few : results (entry_ops t e) ≤ length e.shapes = entry_results t e in omega (arith, few);
+  bare = (refl, refl);
+  held = tt;
+  left = λ j op n. absurd (omega (arith, n));
+}
+
+false_true : false ≡ true → ⊥
+false_true e = cc
+
+one_ends : (to : PieceId) (old new : Pass) (x : OptOp) (q : Bool) → old.to ≡ to → new.ops ≡ old.ops ++ x ∷ [] → old.at_end ≡ plain_entry [] → AllByRecursion GoesOn old.ops → IsEndingBy q old new x → Ending to new
+one_ends to old new x false aim ops none goes h = inl (h.1.0, h.1.1 ∙ none, subst (AllByRecursion GoesOn) (sym ops) (each_append GoesOn old.ops (x ∷ []) goes (h.0, tt)))
+one_ends to old new x true aim ops none goes h = inr (h.0, record { front = old.ops; last = x; whole = ops; goes = goes; ends = subst (λ z. IsEnd z new.at_end x) aim (h.1 none) })
+
+more_ends : (to : PieceId) (old new : Pass) (more : List OptOp) → old.to ≡ to → new.ops ≡ old.ops ++ more → old.at_end ≡ plain_entry [] → AllByRecursion GoesOn old.ops → IsEnding old new more → Ending to new
+more_ends to old new [] aim ops none goes h = inl (h.0, h.1 ∙ none, subst (AllByRecursion GoesOn) (sym (ops ∙ append_none old.ops)) goes)
+  where
+    append_none : {X : Type 0} (xs : List X) → xs ++ [] ≡ xs
+    append_none [] = refl
+    append_none (z ∷ zs) = ap (λ l. z ∷ l) (append_none zs)
+more_ends to old new (x ∷ []) aim ops none goes h = one_ends to old new x (is_end x) aim ops none goes h
+more_ends to old new (x ∷ y ∷ more) aim ops none goes h = absurd h
+
+pub shown_more : (to : PieceId) (e : Entry) (ops : List Op) (n : ℕ) (op : Op) (old new : Pass) → take (n + 1) ops ≡ take n ops ++ op ∷ [] → slice_get ops n ≡ Some op → old.to ≡ to → Shown to e ops n old → Printed op old new → Shown to e ops (n + 1) new
+shown_more to e ops n op old new split at aim h k = record {
+  entries = subst (λ z. AllZip IsEntryAt z new.guards) (sym (ap (flat_map kept_of) k.ops ∙ flat_both kept_of old.ops k.more)) (subst (AllZip IsEntryAt (flat_map kept_of old.ops ++ flat_map kept_of k.more)) (sym k.guards) (zip_append IsEntryAt (flat_map kept_of old.ops) old.guards (flat_map kept_of k.more) k.late h.entries k.entries));
+  small =
+      let one : sum_by own_size new.ops ≡ sum_by own_size old.ops + sum_by own_size k.more = ap (sum_by own_size) k.ops ∙ sum_by-append own_size old.ops k.more in
+      let two : weight_from (take (n + 1) ops) ≡ weight_from (take n ops) + weight_from (op ∷ []) = ap weight_from split ∙ sum_by-append (λ (x : Op). 1 + length x.args) (take n ops) (op ∷ []) in
+      omega (arith, one, two, h.small, k.small);
+  ending = by h.ending;
+  boxes =
+      let both : results new.ops ≡ results old.ops + results k.more = ap results k.ops ∙ results_both old.ops k.more in
+      omega (arith, both, h.boxes, k.boxes);
+  bare = k.bare h.bare;
+  held = subst (AllByRecursion (λ x. IsBare x.1)) (sym k.guards) (each_append (λ x. IsBare x.1) old.guards k.late h.held k.held);
+  left = λ j q m w z. let same : j ≡ n = omega (arith, m) in k.leaves (subst (λ x. ends (part_of x.code) ≡ true) (some_same (sym w ∙ ap (slice_get ops) same ∙ at)) z);
+}
+  where
+    by : Ending to old → Ending to new
+    by (inl g) = more_ends to old new k.more aim k.ops g.1 g.2 k.ending
+    by (inr g) = absurd (false_true (sym k.going ∙ g.0))
+
+-- The whole: where the last recorded operation ends its trace, the piece has ended too
+
+pub shows_end : (to : PieceId) (e : Entry) (ops : List Op) (n : ℕ) (o : Pass) → Shown to e ops n o → n ≤ length ops → o.ended ≡ true → Shows to e ops o
+shows_end to e ops n o h few ended = record {
+  entries = h.entries;
+  small = let less : weight_from (take n ops) ≤ weight_from ops = sum_by-take-le (λ (x : Op). 1 + length x.args) ops n in omega (arith, less, h.small);
+  ending = λ l. by h.ending;
+  boxes = omega (arith, h.boxes, few);
+  bare = h.bare;
+  held = h.held;
+}
+  where
+    by : Ending to o → EndsWith to o.at_end o.ops
+    by (inl g) = absurd (false_true (sym g.0 ∙ ended))
+    by (inr g) = g.1
+
+pub shows_all : (to : PieceId) (e : Entry) (ops : List Op) (n : ℕ) (o : Pass) → Shown to e ops n o → n ≡ length ops → Shows to e ops o
+shows_all to e ops n o h all = record {
+  entries = h.entries;
+  small = let less : weight_from (take n ops) ≤ weight_from ops = sum_by-take-le (λ (x : Op). 1 + length x.args) ops n in omega (arith, less, h.small);
+  boxes = omega (arith, h.boxes, all);
+  bare = h.bare;
+  held = h.held;
+  ending = λ l. (shows_end to e ops n o h (omega (arith, all)) (h.left l.before l.last (all ∙ l.long) l.there l.ends)).ending l;
+}

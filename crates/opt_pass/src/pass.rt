@@ -1,0 +1,169 @@
+//! The pass over a straight trace.
+ghost use Rattle.std.specs.Prelude.{◌≡◌, ℕ, ◌+◌, ◌<◌, ◌≤◌, ◌^◌, Some, OnOk, IfOk, length, map, false, slice_get};
+ghost use Rattle.trace_ops.specs.Facts.{part_of as part};
+ghost use Rattle.trace_ops.specs.declared.facts.Part.TheVariants as parts;
+ghost use Rattle.trace_ops.specs.declared.trace.BoxId.{BoxId};
+ghost use Rattle.trace_ops.specs.Constants.{HasWords};
+ghost use Rattle.trace_ops.specs.Kinds.{kind_of_val};
+ghost use Rattle.trace_ops.specs.Lawful.{IsLawful};
+ghost use Rattle.trace_meaning.specs.Recorded.{inputs_of, ops_at};
+ghost use Rattle.opt_meaning.specs.Leaving.{Simulates};
+ghost use Rattle.opt_pass.specs.Contract.{JumpsTo, IsOf, HasEntries, EndsWith, IsSmall};
+ghost use Rattle.opt_pass.specs.Keeping.{KeepsAll, IsDone};
+
+use crate::laws::laws_hold;
+use crate::start::{label_of, start};
+use crate::state::Pass;
+use crate::steps::{dropped_guard, finish_op, jump_op, kept_guard, plain_op};
+use crate::truths::truth_op;
+use crate::values::value_op;
+use crate::words::pure_op;
+use std::alloc::{AllocError, Global};
+use trace_check::Checked;
+use trace_meaning::lawful_legs_can_begin;
+use trace_ops::{
+    BoxId, Entry, List, Op, OpCode, Part, Piece, PieceId, Table, TraceSet, is_pure, part_of,
+};
+
+fn guard_op(pass: &mut Pass, alloc: Global, op: &Op) -> Result<(), AllocError>
+    requires going { pass.old.ended ≡ false }
+    requires guards { pass.old.guard + 1 < 2 ^ 32 }
+    requires part { part op.now.code ≡ parts.Guard }
+    ensures { OnOk result (KeepsAll op.now pass.old pass.new) }
+{
+    match op.code {
+        OpCode::GuardTrue => truth_op(pass, alloc, op, true),
+        OpCode::GuardFalse => truth_op(pass, alloc, op, false),
+        OpCode::GuardValue => value_op(pass, alloc, op),
+        OpCode::GuardNoException => {
+            dropped_guard(pass, op);
+            Ok(())
+        }
+        _ => kept_guard(pass, alloc, op),
+    }
+}
+
+#[tactic(auto, using(crate::proofs::PureArms::pure_performed))]
+fn performed_op(pass: &mut Pass, alloc: Global, op: &Op) -> Result<(), AllocError>
+    requires going { pass.old.ended ≡ false }
+    requires boxes { pass.old.next + 1 < 2 ^ 32 }
+    requires part { part op.now.code ≡ parts.Plain }
+    ensures { OnOk result (KeepsAll op.now pass.old pass.new) }
+{
+    if is_pure(op.code) {
+        return pure_op(pass, alloc, op);
+    }
+    plain_op(pass, alloc, op)
+}
+
+fn record_op(pass: &mut Pass, alloc: Global, op: &Op) -> Result<(), AllocError>
+    requires going { pass.old.ended ≡ false }
+    requires boxes { pass.old.next + 1 < 2 ^ 32 }
+    requires guards { pass.old.guard + 1 < 2 ^ 32 }
+    ensures { OnOk result (KeepsAll op.now pass.old pass.new) }
+{
+    match part_of(op.code) {
+        Part::Plain => performed_op(pass, alloc, op),
+        Part::Overflowing => plain_op(pass, alloc, op),
+        Part::Guard => guard_op(pass, alloc, op),
+        Part::OverflowGuard => kept_guard(pass, alloc, op),
+        Part::Jump => jump_op(pass, alloc, op),
+        Part::Finish => finish_op(pass, alloc, op),
+    }
+}
+
+// What the operations become, from each pair that the entry admits.
+fn optimise_ops(
+    alloc: Global,
+    table: &Table,
+    inputs: &[BoxId],
+    entry: &Entry,
+    ops: &[Op],
+    to: PieceId,
+    target: &[BoxId],
+) -> Result<Pass, AllocError>
+    requires few { length entry.now.label + length entry.now.shapes + length ops.now + 1 < 2 ^ 32 }
+    ensures { IfOk result (λ o. IsDone table.now inputs.now to target.now entry.now ops.now o) }
+{
+    let mut pass = start(alloc, table, inputs, to, target, entry)?;
+    for op in ops {
+        if pass.ended {
+            return Ok(pass);
+        }
+        record_op(&mut pass, alloc, op)?;
+    }
+    Ok(pass)
+}
+
+/// A piece of a trace, with what is known where each of its guards fails, and where it ends.
+#[derive(Drop)]
+pub struct Optimised {
+    pub piece: Piece,
+    /// The guards that the piece has, each with its number among those of the trace.
+    pub at_guards: List<(u32, Entry)>,
+    pub at_end: Entry,
+}
+
+fn inputs_at(set: &TraceSet, trace: u32) -> &[BoxId]
+    ensures { result.now ≡ inputs_of (slice_get set.now.traces trace) }
+{
+    match set.traces.items().get(trace as usize) {
+        Some(t) => t.inputs.items(),
+        None => &[],
+    }
+}
+
+fn operations_at(set: &TraceSet, trace: u32) -> &[Op]
+    ensures { result.now ≡ ops_at set.now trace }
+{
+    match set.traces.items().get(trace as usize) {
+        Some(t) => t.ops.items(),
+        None => &[],
+    }
+}
+
+/// A piece that does what its trace does, from each pair that the entry admits. The virtual objects of the entry are made at
+/// its start, and the entry's stores are done there. Where the trace jumps, the piece jumps to `to`.
+pub fn optimise(
+    alloc: Global,
+    checked: &Checked,
+    id: PieceId,
+    entry: &Entry,
+    to: PieceId,
+) -> Result<Optimised, AllocError>
+    requires trace { id.trace < length checked.now.traces }
+    requires target { JumpsTo checked.now id.trace to.trace }
+    requires lawful { IsLawful checked.now entry.now }
+    requires label { length entry.now.label < 2 ^ 30 }
+    requires shapes { length entry.now.shapes < 2 ^ 30 }
+    requires values { map kind_of_val entry.now.values ≡ map (λ (b : BoxId). Some b.kind) (inputs_of (slice_get checked.now.traces id.trace)) }
+    ensures simulates { IfOk result (λ o. HasWords checked.now → Simulates checked.now id.trace entry.now o.piece o.at_guards o.at_end) }
+    ensures piece { IfOk result (λ o. IsOf id entry.now o.piece) }
+    ensures entries { IfOk result (λ o. HasEntries o.piece.ops o.at_guards) }
+    ensures end { IfOk result (λ o. EndsWith to o.at_end o.piece.ops) }
+    ensures small { IfOk result (λ o. IsSmall checked.now id.trace entry.now o.piece o.at_guards o.at_end) }
+{
+    laws_hold();
+    lawful_legs_can_begin();
+    let set = checked.set();
+    let ops = operations_at(set, id.trace);
+    let inputs = inputs_at(set, id.trace);
+    let target = inputs_at(set, to.trace);
+    let pass = optimise_ops(alloc, &set.table, inputs, entry, ops, to, target)?;
+    let label = label_of(alloc, entry.label.items())?;
+    let Pass {
+        ops: made,
+        guards,
+        at_end,
+        ..
+    } = pass;
+    Ok(Optimised {
+        piece: Piece {
+            id,
+            label,
+            ops: made,
+        },
+        at_guards: guards,
+        at_end,
+    })
+}

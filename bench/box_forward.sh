@@ -93,7 +93,7 @@ fn equals(forward: &mut Forward, count: u32)
     }
 }
 
-fn main(rt: HostRuntime) -> Result<()> {
+fn time_notes(rt: &HostRuntime) -> Result<()> {
     let mut known = Pure::new(rt.alloc())?;
     let start = rt.process_cpu_time()?;
     note_all(&mut known)?;
@@ -103,27 +103,35 @@ fn main(rt: HostRuntime) -> Result<()> {
     let found = look_up_all(&known);
     let took = rt.process_cpu_time()?.saturating_sub(start);
     println!(rt; "{found} found again in {took:?}")?;
-    let mut few = fresh(rt.alloc(), 1_000)?;
-    let start = rt.process_cpu_time()?;
-    constants(&mut few, 1_000);
-    let took = rt.process_cpu_time()?.saturating_sub(start);
-    println!(rt; "1000 constants in {took:?}")?;
-    let mut many = fresh(rt.alloc(), 8_000)?;
-    let start = rt.process_cpu_time()?;
-    constants(&mut many, 8_000);
-    let took = rt.process_cpu_time()?.saturating_sub(start);
-    println!(rt; "8000 constants in {took:?}")?;
-    let mut few = fresh(rt.alloc(), 1_001)?;
-    let start = rt.process_cpu_time()?;
-    equals(&mut few, 1_000);
-    let took = rt.process_cpu_time()?.saturating_sub(start);
-    println!(rt; "1000 equalities in {took:?}")?;
-    let mut many = fresh(rt.alloc(), 8_001)?;
-    let start = rt.process_cpu_time()?;
-    equals(&mut many, 8_000);
-    let took = rt.process_cpu_time()?.saturating_sub(start);
-    println!(rt; "8000 equalities in {took:?}")?;
     Ok(())
+}
+
+fn time_constants(rt: &HostRuntime, count: u32) -> Result<()> {
+    let mut forward = fresh(rt.alloc(), count)?;
+    let start = rt.process_cpu_time()?;
+    constants(&mut forward, count);
+    let took = rt.process_cpu_time()?.saturating_sub(start);
+    println!(rt; "{count} constants in {took:?}")?;
+    Ok(())
+}
+
+fn time_equals(rt: &HostRuntime, count: u32) -> Result<()>
+    requires { count + 1 < 4294967296 }
+{
+    let mut forward = fresh(rt.alloc(), count + 1)?;
+    let start = rt.process_cpu_time()?;
+    equals(&mut forward, count);
+    let took = rt.process_cpu_time()?.saturating_sub(start);
+    println!(rt; "{count} equalities in {took:?}")?;
+    Ok(())
+}
+
+fn main(rt: HostRuntime) -> Result<()> {
+    time_notes(&rt)?;
+    time_constants(&rt, 1_000)?;
+    time_constants(&rt, 8_000)?;
+    time_equals(&rt, 1_000)?;
+    time_equals(&rt, 8_000)
 }
 EOF
 cat > "$speed/proofs/Lib.antt" <<'EOF'

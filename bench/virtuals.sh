@@ -86,19 +86,19 @@ fn force_each(virtuals: &mut Virtuals, count: u32) -> std::result::Result<usize,
     Ok(steps)
 }
 
-fn main(rt: HostRuntime) -> Result<()> {
-    let mut few = Virtuals::new(rt.alloc())?;
-    singles(&mut few, 1_000)?;
+fn time_singles(rt: &HostRuntime, count: u32) -> Result<()>
+    requires { count < 1000000 }
+{
+    let mut virtuals = Virtuals::new(rt.alloc())?;
+    singles(&mut virtuals, count)?;
     let start = rt.process_cpu_time()?;
-    let steps = force_each(&mut few, 1_000)?;
+    let steps = force_each(&mut virtuals, count)?;
     let took = rt.process_cpu_time()?.saturating_sub(start);
-    println!(rt; "1000 single objects: {steps} steps in {took:?}")?;
-    let mut many = Virtuals::new(rt.alloc())?;
-    singles(&mut many, 8_000)?;
-    let start = rt.process_cpu_time()?;
-    let steps = force_each(&mut many, 8_000)?;
-    let took = rt.process_cpu_time()?.saturating_sub(start);
-    println!(rt; "8000 single objects: {steps} steps in {took:?}")?;
+    println!(rt; "{count} single objects: {steps} steps in {took:?}")?;
+    Ok(())
+}
+
+fn time_list(rt: &HostRuntime) -> Result<()> {
     let mut virtuals = Virtuals::new(rt.alloc())?;
     let last = linked(&mut virtuals)?;
     let start = rt.process_cpu_time()?;
@@ -107,6 +107,12 @@ fn main(rt: HostRuntime) -> Result<()> {
     let steps = order.len();
     println!(rt; "OBJECTS objects: {steps} steps in {took:?}")?;
     Ok(())
+}
+
+fn main(rt: HostRuntime) -> Result<()> {
+    time_singles(&rt, 1_000)?;
+    time_singles(&rt, 8_000)?;
+    time_list(&rt)
 }
 EOF
 cat > "$work/crates/force_speed/proofs/linked/Invariants.antt" <<'EOF'

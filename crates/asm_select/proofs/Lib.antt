@@ -30,6 +30,7 @@ pub mod Classed
 pub mod Follows
 pub mod Travels
 pub mod Lengths
+pub mod WordRows
 pub mod Rows
 pub mod Exiting
 pub mod Suiting
@@ -45,5 +46,6 @@ pub mod Planned
 pub mod Selection
 pub mod Rekeying
 pub mod Fitting
+pub mod Storing
 pub mod Answering
 pub mod Preceding

@@ -1,12 +1,12 @@
 -- The words before prebuilt objects.
-use Rattle.std.proofs.Common.{◌≡◌, ◌⊎◌, ℕ, zero, suc, ◌+◌, ◌<◌, List, [], ◌∷◌, ◌++◌, Some, None, length, map, inl, inr, refl, sym, ap, ◌∙◌, subst, arith}
+use Rattle.std.proofs.Common.{◌≡◌, ◌⊎◌, ℕ, zero, suc, ◌+◌, ◌<◌, List, [], ◌∷◌, ◌++◌, Some, length, map, inl, inr, refl, sym, ap, ◌∙◌, subst, arith}
 use Rattle.std.specs.Prelude.{slice_get}
 use Rattle.std.proofs.lemmas.List.{length-map, length_push}
 use Rattle.lists.proofs.Appends.{push_cases}
 use Rattle.lists.proofs.Options.{some_same}
 use Rattle.trace_ops.specs.declared.table.PrebuiltRow.{PrebuiltRow}
 use Rattle.trace_meaning.specs.Recorded.{prebuilt_object, initial_value}
-use Rattle.arena_objects.specs.Layout.{words_ahead, words_in, words_before}
+use Rattle.arena_objects.specs.Layout.{words_ahead, words_before}
 use Rattle.asm_select.specs.Known.{HaveStarts}
 
 -- so many objects have a start, and this one is next

@@ -135,8 +135,8 @@ misfits_backward m g b act call z n le = by_turn (opt_step m.set.table z.op z.en
     by_turn (Off (Wrong w)) e h = absurd h
 
 -- an arena that is full at a call is so beside the pieces
-pub full_beside : (m : Model) (g : Image) (b : Begun) (act : Activation) (asked left : ℕ) (z : Refused m g b act (Full asked left)) → m.fills z.env.world asked left
+pub full_beside : (m : Model) (g : Image) (b : Begun) (act : Activation) (asked left : ℕ) (z : Refused m g b act (Full asked left)) → m.fills z.env.world (opt_step m.set.table z.op z.env) asked left
 full_beside m g b act asked left z = full_of (opt_step m.set.table z.op z.env) z.ends
   where
-    full_of : (t : Turn Opt) → EndsBy m z.env.world t act.calls (Full asked left) → m.fills z.env.world asked left
+    full_of : (t : Turn Opt) → EndsBy m z.env.world t act.calls (Full asked left) → m.fills z.env.world t asked left
     full_of t h = h

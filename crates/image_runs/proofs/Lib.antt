@@ -14,3 +14,4 @@ mod Undoing
 mod Steadying
 mod AnyEvents
 mod Building
+mod Listing

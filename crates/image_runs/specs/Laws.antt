@@ -1,22 +1,23 @@
 -- What holds of runs on an image, whatever selection and the host are.
-use Rattle.std.specs.Prelude.{◌≡◌, ◌≢◌, ℕ, ◌+◌, ◌*◌, ◌^◌, ◌<◌, ◌≤◌, Bool, List, [], ◌∷◌, ◌++◌, length, map, slice_set, slice_index_or, None}
+use Rattle.std.specs.Prelude.{◌≡◌, ◌≢◌, ℕ, ◌+◌, ◌*◌, ◌^◌, ◌<◌, ◌≤◌, ◌⊎◌, Bool, List, [], ◌∷◌, ◌++◌, length, map, slice_set, slice_index_or, None}
 use Rattle.trace_ops.specs.declared.trace.TraceSet.{TraceSet}
 use Rattle.trace_ops.specs.declared.piece.Piece.{Piece}
 use Rattle.trace_ops.specs.declared.piece.PieceId.{PieceId}
-use Rattle.x64_encode.specs.Listing.{IsWhole}
+use Rattle.x64_encode.specs.Listing.{Listing, IsWhole}
 use Rattle.x64_machine.specs.State.{State, Acted}
 use Rattle.x64_machine.specs.Step.{MachineStep}
 use Rattle.trace_meaning.specs.World.{World}
 use Rattle.trace_meaning.specs.Legs.{Leave, Waits, Misfits, Wrong, run, Leg, Ended, leg, legs}
 use Rattle.trace_meaning.specs.Cuts.{Cuts}
 use Rattle.trace_meaning.specs.Observed.{world_left}
+use Rattle.opt_meaning.specs.Step.{opt_step}
 use Rattle.opt_meaning.specs.Pieces.{pieces, PiecesNow}
 use Rattle.guard_exit.specs.declared.row.ExitRow.{ExitRow}
 use Rattle.asm_select.specs.Slots.{Jumps, HaveRows}
 use Rattle.image_runs.specs.Printed.{Part, Printed, with_part}
 use Rattle.image_runs.specs.Counted.{CountsFailure}
 use Rattle.image_runs.specs.Session.{Calls, End, Waiting, Misfitting, Full, Activation, Event, Session, SessionStep, SessionRun, with_cut}
-use Rattle.image_runs.specs.Reached.{IsSpot}
+use Rattle.image_runs.specs.Listed.{places_of, IsAtPlace, GoWrong}
 use Rattle.image_runs.specs.Selection.{Model, ended}
 use Rattle.image_runs.specs.Image.{Image, code_in, RowsAre, IsHere, IsClosed, IsImage}
 use Rattle.image_runs.specs.Standing.{Way, Walking}
@@ -102,6 +103,14 @@ UndoneIsImage m =
 abbrev pub CodeIsWhole : Model → Type 0
 CodeIsWhole m = (g : Image) (bs : List ℕ) (rows : List ExitRow) → IsImage m g bs rows → IsWhole (code_in g)
 
+-- the places of its listing are those of its slots
+abbrev pub ImageIsListed : Model → Type 0
+ImageIsListed m = (g : Image) (bs : List ℕ) (rows : List ExitRow) → IsImage m g bs rows → Listing (code_in g) (places_of g)
+
+-- and stay so where slots are appended
+abbrev pub PlacesStay : Type 0
+PlacesStay = (g h : Image) → Grown g h → (more : List ℕ) × (places_of h ≡ places_of g ++ more)
+
 -- ---- sessions
 
 -- what is made by compiling and by attachments stands at every moment
@@ -152,7 +161,7 @@ MisfitsBackward m =
 
 -- where the arena is full, it is so beside the pieces
 abbrev pub FullBeside : Model → Type 0
-FullBeside m = (g : Image) (b : Begun) (act : Activation) (asked left : ℕ) (z : Refused m g b act (Full asked left)) → m.fills z.env.world asked left
+FullBeside m = (g : Image) (b : Begun) (act : Activation) (asked left : ℕ) (z : Refused m g b act (Full asked left)) → m.fills z.env.world (opt_step m.set.table z.op z.env) asked left
 
 -- ---- calls, and the instruction pointer
 
@@ -164,6 +173,9 @@ GoingCalls m = (g : Image) (b : Begun) (act : Activation) (z : Beside m g b act)
 abbrev pub ShownCalls : Model → Type 0
 ShownCalls m = (g : Image) (b : Begun) (act : Activation) (end : End) (z : Shown m g b act end) → m.called (world_left (ended z.leave)) act.calls
 
--- a going activation stands in front of or behind a slot, where selection follows the instruction pointer
-abbrev pub GoingPointer : Model → Type 0
-GoingPointer m = (g : Image) (b : Begun) (act : Activation) → Beside m g b act → m.followed → IsSpot 0 g.slots act.machine
+-- a going activation stands at a place of the listing, where selection follows the instruction pointer and the pieces aren't wrong
+abbrev pub PointerIsPlace : Model → Type 0
+PointerIsPlace m =
+    (g : Image) (bs : List ℕ) (rows : List ExitRow) (b : Begun) (act : Activation)
+    → AnswersMakeNone m.host → IsImage m g bs rows → IsActive m g bs b act → act.end ≡ None → m.followed
+    → IsAtPlace g act.machine ⊎ GoWrong (pieces m.set m.pieces act.cuts) b

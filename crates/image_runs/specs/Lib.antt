@@ -13,6 +13,7 @@ pub mod Attached
 pub mod Attachment
 pub mod Patched
 pub mod Undone
+pub mod Listed
 pub mod Sessions
 pub mod Relying
 pub mod Laws

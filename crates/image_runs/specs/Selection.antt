@@ -54,8 +54,8 @@ pub record Model : Type 1 where
   pub left : PieceId → ℕ → Leave → Calls → State → Type 0
   -- at the return: they are found where the row says
   pub gone : PieceId → ℕ → Leave → Calls → State → Type 0
-  -- so many bytes are asked for and so many are left, where the operations have made these objects
-  pub fills : World → (asked left : ℕ) → Type 0
+  -- more bytes are asked for than are left, where an operation begins in this world and turns out so
+  pub fills : World → Turn Opt → (asked left : ℕ) → Type 0
   -- the host's calls are those of the world, and each of these says so
   pub called : World → Calls → Type 0
   pub tells : (q : PieceId) (j : ℕ) (env : Opt) (c : Calls) (s : State) → holds q j env c s → called env.world c
@@ -101,7 +101,7 @@ pub record ComesOff (m : Model) (pl : Placed) (j : ℕ) (op : OptOp) (xs : List 
 
 -- the answer that ends a call is the operation's; where the arena is full, that is so beside the pieces
 abbrev pub EndsBy : Model → World → Turn Opt → Calls → End → Type 0
-EndsBy m u turn c (Full asked left) = m.fills u asked left
+EndsBy m u turn c (Full asked left) = m.fills u turn asked left
 EndsBy m u (Off (Waits w)) c Waiting = m.called w c
 EndsBy m u (Off (Misfits w)) c (Misfitting n) = m.called w c
 EndsBy m u turn c end = ⊥

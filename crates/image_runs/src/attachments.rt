@@ -1,8 +1,9 @@
 //! What attachments keep and change.
 
-ghost use Rattle.image_runs.specs.Laws.{RunsStayAlike, LegsStayAlike, AttachmentKeeps, AttachmentIsImage, PartIsCode, UndoneIsImage, CodeIsWhole};
+ghost use Rattle.image_runs.specs.Laws.{RunsStayAlike, LegsStayAlike, AttachmentKeeps, AttachmentIsImage, PartIsCode, UndoneIsImage, CodeIsWhole, ImageIsListed, PlacesStay};
 
 use crate::Selection;
+use crate::relied_on::lower_laws;
 use asm_select::slots_are_whole;
 
 /// Pieces and cuts that are added change nothing of a run so far.
@@ -36,4 +37,12 @@ pub fn code_is_whole<T: Selection>()
     ensures { (x : T) → CodeIsWhole (T.model x) }
 {
     slots_are_whole();
+}
+
+/// The places of its listing are those of its slots, and an attachment keeps them.
+pub fn image_is_listed<T: Selection>()
+    ensures places { (x : T) → ImageIsListed (T.model x) }
+    ensures stay { PlacesStay }
+{
+    lower_laws();
 }

@@ -1,6 +1,6 @@
 //! What any list of events keeps, and what follows for each activation.
 
-ghost use Rattle.image_runs.specs.Laws.{BuiltStands, StepKeeps, RunKeeps, OthersStay, ForwardBound, ShownBackward, WaitsBackward, MisfitsBackward, FullBeside, GoingCalls, ShownCalls, GoingPointer};
+ghost use Rattle.image_runs.specs.Laws.{BuiltStands, StepKeeps, RunKeeps, OthersStay, ForwardBound, ShownBackward, WaitsBackward, MisfitsBackward, FullBeside, GoingCalls, ShownCalls, PointerIsPlace};
 
 use crate::Selection;
 use crate::relied_on::lower_laws;
@@ -44,7 +44,9 @@ pub fn calls_are_had<T: Selection>()
     ensures shown { (x : T) → ShownCalls (T.model x) }
 {}
 
-/// Where the instruction pointer of a going activation is.
-pub fn pointer_is_followed<T: Selection>()
-    ensures { (x : T) → GoingPointer (T.model x) }
-{}
+/// The instruction pointer of a going activation is at a place of the listing.
+pub fn pointer_is_place<T: Selection>()
+    ensures { (x : T) → PointerIsPlace (T.model x) }
+{
+    lower_laws();
+}

@@ -286,7 +286,6 @@ module _ (m : Model) (p : List Piece) (g h : Image) (bs : List ℕ) (kept : AreK
     spots = λ f. spots_grown g h grown (s ∷ path) (z.spots f);
     at = z.at;
     stands = has_grown g h grown z.q (Put (instr.CallReg z.register) ∷ z.behind) z.stands;
-    inside = z.inside;
     meets = z.meets;
     call = record { entry = z.call.entry; stopped = z.call.stopped; stops = z.call.stops; answered = λ o a. answer_grown z.pl (length z.before) _ z.behind _ _ _ o (z.call.answered o a) };
     few = z.few;

@@ -118,7 +118,6 @@ module _ (m : Model) (p : List Piece) (g h : Image) (bs : List ℕ) (bridge : �
   calls_wide pl j xs more q s c w turn y = record {
     register = y.register;
     rest = y.rest;
-    inside = y.inside;
     reach = weaker q xs (Put (instr.CallReg y.register) ∷ y.rest) s (λ t k. (k.0, k.1, record { entry = k.2.entry; stopped = k.2.stopped; stops = k.2.stops; answered = λ o a. answer_wide k.0 o (k.2.answered o a) })) y.reach;
   }
     where

@@ -177,8 +177,7 @@ module _ (law : Relies) (m : Model) (g : Image) (bs : List ℕ) (rows : List Exi
         spots = spots_reached g.slots (place_of pl z) (z.xs ++ joined z.more) (Put (instr.CallReg h.register) ∷ h.rest) s has stand r;
         at = r.run.holds.1;
         stands = subst (λ (k : ℕ). HasSlots g.slots k (Put (instr.CallReg h.register) ∷ h.rest)) (sym q) stands;
-        inside = h.inside;
-        meets = omega (arith, q, next_size z.before z.xs, ap sizes_of r.run.split, sizes-append z.xs (joined z.more), sizes-append r.run.front (Put (instr.CallReg h.register) ∷ h.rest), ap sizes_of h.inside.1, sizes-append h.inside.0 (joined z.more));
+        meets = omega (arith, q, next_size z.before z.xs, ap sizes_of r.run.split, sizes-append z.xs (joined z.more), sizes-append r.run.front (Put (instr.CallReg h.register) ∷ h.rest));
         call = subst (λ (x : Turn Opt). AtCall m pl (length z.before) h.register h.rest (joined z.more) env.world x c r.run.holds.0 r.run.t) (sym e) r.run.holds.2;
         few = omega (arith, r.run.few, few);
       }))

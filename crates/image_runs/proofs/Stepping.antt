@@ -195,7 +195,6 @@ module _ (law : Relies) (m : Model) (g : Image) (bs : List ℕ) (rows : List Exi
         spots = λ f. (z.spots f).1;
         at = z.at;
         stands = z.stands;
-        inside = z.inside;
         meets = z.meets;
         call = z.call;
         few = omega arith;
@@ -252,7 +251,7 @@ module _ (law : Relies) (m : Model) (g : Image) (bs : List ℕ) (rows : List Exi
           let q2 = z.q + size_of (Put (instr.CallReg z.register)) in
           let stands : HasSlots g.slots q2 z.behind = has_behind g.slots z.q (Put (instr.CallReg z.register)) z.behind z.stands in
           let way = way_reached g.slots q2 z.behind (joined z.more) u stands r in
-          let front : sizes_of r.run.front ≡ sizes_of z.inside.0 = omega (arith, ap sizes_of (sym r.run.split ∙ z.inside.1), sizes-append r.run.front (joined z.more), sizes-append z.inside.0 (joined z.more)) in
+          let front : sizes_of z.behind ≡ sizes_of r.run.front + sizes_of (joined z.more) = ap sizes_of r.run.split ∙ sizes-append r.run.front (joined z.more) in
           let at : r.run.t.at ≡ 0x40000000 + (start_of z.pl + sizes_of (joined (z.before ++ z.xs ∷ []))) = omega (arith, r.run.at, r.run.place, front, z.meets) in
           let spot : Spot m z.pl z.op z.rest = record { done = z.done; before = z.before; xs = z.xs; more = z.more; ops = z.ops; codes = z.codes; same = z.same; ahead = z.ahead } in
           let w = walks law m g bs rows image cuts steady z.pl z.there z.op z.rest z.env after c2 u r.run.t r.run.path (length z.behind) spot h.1 way at (subst (λ (n : ℕ). m.holds z.pl.id n after c2 r.run.t) (omega (arith, length-append z.before (z.xs ∷ []))) r.run.holds) r.run.few (spots_reached g.slots q2 z.behind (joined z.more) u stands h.3 r) in

@@ -122,7 +122,6 @@ pub record AtCall (m : Model) (pl : Placed) (j : ℕ) (r : Reg) (rest more : Lis
 pub record CallsHost (m : Model) (pl : Placed) (j : ℕ) (xs more : List Slot) (p : ℕ) (s : State) (c : Calls) (world : World) (turn : Turn Opt) : Type 0 where
   pub register : Reg
   pub rest : List Slot
-  pub inside : (front : List Slot) × (rest ≡ front ++ more)
   pub reach : Comes m.followed p xs s (Put (CallReg register) ∷ rest) (λ t. (q : ℕ) × (t.at ≡ 0x40000000 + q) × AtCall m pl j register rest more world turn c q t)
 
 -- an operation goes on to the next one, comes to the slot at which it is left, or stands at a call; of a wrong one nothing is said

@@ -95,8 +95,7 @@ pub record Calling (m : Model) (g : Image) (x : PiecesNow) (c : Calls) (s : Stat
   pub spots : m.followed → AllByRecursion (IsSpot 0 g.slots) (s ∷ path)
   pub at : t.at ≡ 0x40000000 + q
   pub stands : HasSlots g.slots q (Put (CallReg register) ∷ behind)
-  pub inside : (front : List Slot) × (behind ≡ front ++ joined more)
-  pub meets : q + (size_of (Put (CallReg register)) + sizes_of inside.0) ≡ start_of pl + sizes_of (joined (before ++ xs ∷ []))
+  pub meets : q + (size_of (Put (CallReg register)) + sizes_of behind) ≡ start_of pl + (sizes_of (joined (before ++ xs ∷ [])) + sizes_of (joined more))
   pub call : AtCall m pl (length before) register behind (joined more) env.world (opt_step m.set.table op env) c q t
   pub few : length path + (1 + length behind) ≤ todo
 

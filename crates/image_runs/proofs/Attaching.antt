@@ -257,9 +257,9 @@ module _ (m : Model) (p : List Piece) (g h : Image) (bs : List ℕ) (kept : AreK
     few = z.few;
   }
 
-  pub answer_grown : (pl : Placed) (j q : ℕ) (rest more : List Slot) (w : World) (turn : Turn Opt) (o : Answered) → AnswerDoes m pl j q rest more w turn o → AnswerDoes (widened m p) pl j q rest more w turn o
-  answer_grown pl j q rest more w turn (Resumes c u) a = a
-  answer_grown pl j q rest more w turn (Stops c end) a = a
+  pub answer_grown : (pl : Placed) (j q : ℕ) (rest more : List Slot) (w : World) (turn : Turn Opt) (s : State) (o : Answered) → AnswerDoes m pl j q rest more w turn s o → AnswerDoes (widened m p) pl j q rest more w turn s o
+  answer_grown pl j q rest more w turn s (Resumes c u) a = a
+  answer_grown pl j q rest more w turn s (Stops c end) a = a
 
   calling_grown : (x : PiecesNow) (c : Calls) (s : State) (path : List State) (todo : ℕ) → Calling m g x c s path todo → Calling (widened m p) h x c s path todo
   calling_grown x c s path todo z = record {
@@ -287,7 +287,7 @@ module _ (m : Model) (p : List Piece) (g h : Image) (bs : List ℕ) (kept : AreK
     at = z.at;
     stands = has_grown g h grown z.q (Put (instr.CallReg z.register) ∷ z.behind) z.stands;
     meets = z.meets;
-    call = record { entry = z.call.entry; stopped = z.call.stopped; stops = z.call.stops; answered = λ o a. answer_grown z.pl (length z.before) _ z.behind _ _ _ o (z.call.answered o a) };
+    call = record { entry = z.call.entry; stopped = z.call.stopped; stops = z.call.stops; answered = λ o a. answer_grown z.pl (length z.before) _ z.behind _ _ _ _ o (z.call.answered o a) };
     few = z.few;
   }
 

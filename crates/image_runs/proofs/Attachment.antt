@@ -118,12 +118,12 @@ module _ (m : Model) (p : List Piece) (g h : Image) (bs : List ℕ) (bridge : �
   calls_wide pl j xs more q s c w turn y = record {
     register = y.register;
     rest = y.rest;
-    reach = weaker q xs (Put (instr.CallReg y.register) ∷ y.rest) s (λ t k. (k.0, k.1, record { entry = k.2.entry; stopped = k.2.stopped; stops = k.2.stops; answered = λ o a. answer_wide k.0 o (k.2.answered o a) })) y.reach;
+    reach = weaker q xs (Put (instr.CallReg y.register) ∷ y.rest) s (λ t k. (k.0, k.1, record { entry = k.2.entry; stopped = k.2.stopped; stops = k.2.stops; answered = λ o a. answer_wide k.0 k.2.stopped o (k.2.answered o a) })) y.reach;
   }
     where
-      answer_wide : (at : ℕ) (o : Answered) → AnswerDoes m pl j (at + size_of (Put (instr.CallReg y.register))) y.rest more w turn o → AnswerDoes wide pl j (at + size_of (Put (instr.CallReg y.register))) y.rest more w turn o
-      answer_wide at (Resumes d u) a = a
-      answer_wide at (Stops d end) a = a
+      answer_wide : (at : ℕ) (s : State) (o : Answered) → AnswerDoes m pl j (at + size_of (Put (instr.CallReg y.register))) y.rest more w turn s o → AnswerDoes wide pl j (at + size_of (Put (instr.CallReg y.register))) y.rest more w turn s o
+      answer_wide at s (Resumes d u) a = a
+      answer_wide at s (Stops d end) a = a
 
   does_wide : (pl : Placed) (j : ℕ) (op : OptOp) (xs more : List Slot) (q : ℕ) (s : State) (c : Calls) (u : World) (turn : Turn Opt) → Does m pl j op xs more q s c u turn → Does wide pl j op xs more q s c u turn
   does_wide pl j op xs more q s c u (On after) (inl r) = inl r

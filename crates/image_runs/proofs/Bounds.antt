@@ -112,7 +112,7 @@ shown_backward m g b act end z n le = ended_backward (pieces m.set m.pieces act.
 pub waits_backward : (m : Model) (g : Image) (b : Begun) (act : Activation) (z : Refused m g b act Waiting) (n : ℕ) → act.machine.instructions + 1 ≤ n → (w : World) × (legs (pieces m.set m.pieces act.cuts) n (first_leg b) ≡ Ended z.piece (Waits w)) × m.called w act.calls
 waits_backward m g b act z n le = by_turn (opt_step m.set.table z.op z.env) refl z.ends
   where
-    by_turn : (t : Turn Opt) → opt_step m.set.table z.op z.env ≡ t → EndsBy m z.env.world t act.calls Waiting → (w : World) × (legs (pieces m.set m.pieces act.cuts) n (first_leg b) ≡ Ended z.piece (Waits w)) × m.called w act.calls
+    by_turn : (t : Turn Opt) → opt_step m.set.table z.op z.env ≡ t → EndsBy m z.env.world t act.calls act.machine Waiting → (w : World) × (legs (pieces m.set m.pieces act.cuts) n (first_leg b) ≡ Ended z.piece (Waits w)) × m.called w act.calls
     by_turn (Off (Waits w)) e h = (w, left_backward (pieces m.set m.pieces act.cuts) b z.piece z.op z.rest z.env (Waits w) act.machine.instructions act.failures n z.reached e refl le, h)
     by_turn (On s) e h = absurd h
     by_turn (Off (Fails k vs w)) e h = absurd h
@@ -122,11 +122,11 @@ waits_backward m g b act z n le = by_turn (opt_step m.set.table z.op z.env) refl
     by_turn (Off (Wrong w)) e h = absurd h
 
 -- and an answer that doesn't fit
-pub misfits_backward : (m : Model) (g : Image) (b : Begun) (act : Activation) (call : ℕ) (z : Refused m g b act (Misfitting call)) (n : ℕ) → act.machine.instructions + 1 ≤ n → (w : World) × (legs (pieces m.set m.pieces act.cuts) n (first_leg b) ≡ Ended z.piece (Misfits w)) × m.called w act.calls
+pub misfits_backward : (m : Model) (g : Image) (b : Begun) (act : Activation) (call : ℕ) (z : Refused m g b act (Misfitting call)) (n : ℕ) → act.machine.instructions + 1 ≤ n → (w : World) × (legs (pieces m.set m.pieces act.cuts) n (first_leg b) ≡ Ended z.piece (Misfits w)) × m.called w act.calls × (call ≡ length w.log - 1)
 misfits_backward m g b act call z n le = by_turn (opt_step m.set.table z.op z.env) refl z.ends
   where
-    by_turn : (t : Turn Opt) → opt_step m.set.table z.op z.env ≡ t → EndsBy m z.env.world t act.calls (Misfitting call) → (w : World) × (legs (pieces m.set m.pieces act.cuts) n (first_leg b) ≡ Ended z.piece (Misfits w)) × m.called w act.calls
-    by_turn (Off (Misfits w)) e h = (w, left_backward (pieces m.set m.pieces act.cuts) b z.piece z.op z.rest z.env (Misfits w) act.machine.instructions act.failures n z.reached e refl le, h)
+    by_turn : (t : Turn Opt) → opt_step m.set.table z.op z.env ≡ t → EndsBy m z.env.world t act.calls act.machine (Misfitting call) → (w : World) × (legs (pieces m.set m.pieces act.cuts) n (first_leg b) ≡ Ended z.piece (Misfits w)) × m.called w act.calls × (call ≡ length w.log - 1)
+    by_turn (Off (Misfits w)) e h = (w, left_backward (pieces m.set m.pieces act.cuts) b z.piece z.op z.rest z.env (Misfits w) act.machine.instructions act.failures n z.reached e refl le, h.0, h.1)
     by_turn (On s) e h = absurd h
     by_turn (Off (Fails k vs w)) e h = absurd h
     by_turn (Off (Jumps vs w)) e h = absurd h
@@ -135,8 +135,8 @@ misfits_backward m g b act call z n le = by_turn (opt_step m.set.table z.op z.en
     by_turn (Off (Wrong w)) e h = absurd h
 
 -- an arena that is full at a call is so beside the pieces
-pub full_beside : (m : Model) (g : Image) (b : Begun) (act : Activation) (asked left : ℕ) (z : Refused m g b act (Full asked left)) → m.fills z.env.world (opt_step m.set.table z.op z.env) asked left
+pub full_beside : (m : Model) (g : Image) (b : Begun) (act : Activation) (asked left : ℕ) (z : Refused m g b act (Full asked left)) → m.fills z.env.world (opt_step m.set.table z.op z.env) act.machine asked left
 full_beside m g b act asked left z = full_of (opt_step m.set.table z.op z.env) z.ends
   where
-    full_of : (t : Turn Opt) → EndsBy m z.env.world t act.calls (Full asked left) → m.fills z.env.world t asked left
+    full_of : (t : Turn Opt) → EndsBy m z.env.world t act.calls act.machine (Full asked left) → m.fills z.env.world t act.machine asked left
     full_of t h = h

@@ -19,7 +19,7 @@ use Rattle.image_runs.specs.Runs.{PieceProgram, world_now, Steady}
 use Rattle.guard_exit.specs.declared.row.ExitRow.{ExitRow}
 use Rattle.image_runs.specs.Counted.{CountsFailure}
 use Rattle.image_runs.specs.Session.{Calls, End, Resumes, Stops, Activation, Event, Goes as EventGoes, Fails as EventFails, Calls_on, Calls_ends, Returns as EventReturns, NoRow, NoWord, NoCode, NoFlag, Stays, is_wrong_at}
-use Rattle.image_runs.specs.Selection.{ended, Exit, Guarded, Jumping, Finishing, Inside, Model, Placed, EndsAs, exit_of}
+use Rattle.image_runs.specs.Selection.{ended, Exit, Guarded, Jumping, Finishing, Inside, Model, Placed, EndsAs, exit_of, EndsBy}
 use Rattle.image_runs.specs.Image.{Image, code_in, JumpAt, IsImage}
 use Rattle.opt_meaning.specs.Pieces.{PiecesNow, pieces, ops_at}
 use Rattle.image_runs.specs.Standing.{Stands, Walks, Leaves, Asks, Returns}
@@ -30,6 +30,7 @@ use Rattle.image_runs.proofs.Settling.{settles}
 use Rattle.image_runs.proofs.Stepping.{keeps}
 use Rattle.image_runs.specs.Relying.{Relies}
 use Rattle.image_runs.proofs.Bytes.{length-bytes, sizes-append, size_some, slots_few}
+use Rattle.opt_meaning.specs.Step.{opt_step}
 
 -- ---- runs and legs
 
@@ -256,7 +257,7 @@ module _ (law : Relies) (m : Model) (quiet : AnswersMakeNone m.host) (g : Image)
         let there : m.host.answers e2 act.calls t2 (Resumes c u) = subst (λ (k : ℕ). m.host.answers k act.calls t2 (Resumes c u)) e (subst (λ (k : State). m.host.answers entry act.calls k (Resumes c u)) s answer) in
         replied (replies (Resumes c u) there)
       where
-        replied : Replied m g (pieces m.set m.pieces act.cuts) z.x z.todo (Resumes c u) → After (record act { machine = u; calls = c })
+        replied : Replied m g (pieces m.set m.pieces act.cuts) z.x t2 z.todo (Resumes c u) → After (record act { machine = u; calls = c })
         replied (Goes_on c2 u2 y path left ran stands led o few same) =
             Goes none (advanced z y 1 path left u c act.failures ran stands (Within led (inl o) few) (quiet entry act.calls c t u answer ∙ called_counts entry t step) (same ∙ z.exact))
     calls_on z entry t u c step answer none (Returning_by pl op before rest l did there ops kind jump is number gone) = absurd (let n : 1 ≡ 2 = ap (λ (d : Acted). no_of d.turn) did in omega (arith, n))
@@ -272,11 +273,11 @@ module _ (law : Relies) (m : Model) (quiet : AnswersMakeNone m.host) (g : Image)
         let there : m.host.answers e2 act.calls t2 (Stops c end) = subst (λ (k : ℕ). m.host.answers k act.calls t2 (Stops c end)) e (subst (λ (k : State). m.host.answers entry act.calls k (Stops c end)) s answer) in
         replied (replies (Stops c end) there)
       where
-        replied : Replied m g (pieces m.set m.pieces act.cuts) z.x z.todo (Stops c end) → After (record act { machine = t; calls = c; end = Some end })
+        replied : Replied m g (pieces m.set m.pieces act.cuts) z.x t2 z.todo (Stops c end) → After (record act { machine = t; calls = c; end = Some end })
         replied (Ends_by c2 end2 q op rest env is ends) =
             let a = pieces m.set m.pieces act.cuts in
             let r = later a b z.x (In q (op ∷ rest) env) act.machine.instructions t.instructions act.failures act.failures 0 z.reached is (ap (leg_left a) (sym is)) (inl (ap (rest_of a) (sym is))) (omega (arith, called_counts entry t step)) (omega (arith, z.exact, ap (λ (y : PiecesNow). (world_now a y).failures) is)) in
-            Refuses end refl (record { piece = q; op = op; rest = rest; env = env; reached = r; ends = ends })
+            Refuses end refl (record { piece = q; op = op; rest = rest; env = env; reached = r; ends = subst (λ (k : State). EndsBy m env.world (opt_step m.set.table op env) c2 k end2) (sym (ap (λ (d : Acted). d.state) did)) ends })
     calls_end z entry t c end step answer (Returning_by pl op before rest l did there ops kind jump is number gone) = absurd (let n : 1 ≡ 2 = ap (λ (d : Acted). no_of d.turn) did in omega (arith, n))
     calls_end z entry t c end step answer (Straying q w is) = astray z (record act { machine = t; calls = c; end = Some end }) q w is refl (omega (arith, called_counts entry t step)) (omega arith)
 

@@ -242,7 +242,7 @@ module _ (law : Relies) (m : Model) (g : Image) (bs : List ℕ) (rows : List Exi
       let stop : MachineStep (code_in g) s (acted (Stopped (HostCall z.call.entry)) z.call.stopped) = subst (λ (y : State). MachineStep (code_in g) y (acted (Stopped (HostCall z.call.entry)) z.call.stopped)) (sym same) (z.call.stops g.by (code_in g) image.small listed) in
       Asking z.call.entry z.call.stopped (step_one (code_in g) s done (acted (Stopped (HostCall z.call.entry)) z.call.stopped) law step stop) (λ o h. replied o (z.call.answered o h))
     where
-      replied : (o : Answered) → AnswerDoes m z.pl (length z.before) (z.q + size_of (Put (instr.CallReg z.register))) z.behind (joined z.more) z.env.world (opt_step m.set.table z.op z.env) o → Replied m g (prog m cuts) x todo o
+      replied : (o : Answered) → AnswerDoes m z.pl (length z.before) (z.q + size_of (Put (instr.CallReg z.register))) z.behind (joined z.more) z.env.world (opt_step m.set.table z.op z.env) z.call.stopped o → Replied m g (prog m cuts) x z.call.stopped todo o
       replied (Stops c2 end) h = Ends_by c2 end z.pl.id z.op z.rest z.env z.now h
       replied (Resumes c2 u) h =
           let a = prog m cuts in

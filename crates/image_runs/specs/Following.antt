@@ -90,7 +90,7 @@ pub record Refused (m : Model) (g : Image) (b : Begun) (act : Activation) (end :
   pub rest : List OptOp
   pub env : Opt
   pub reached : Reached (pieces m.set m.pieces act.cuts) b (In piece (op ∷ rest) env) act.machine.instructions act.failures
-  pub ends : EndsBy m env.world (opt_step m.set.table op env) act.calls end
+  pub ends : EndsBy m env.world (opt_step m.set.table op env) act.calls act.machine end
 
 pub data Follows (m : Model) (g : Image) (b : Begun) (act : Activation) : Type 0 where
   Goes : act.end ≡ None → Beside m g b act → Follows m g b act

@@ -71,10 +71,10 @@ pub data Led (a : PieceProgram) (x y : PiecesNow) (all todo left : ℕ) : Type 0
   Ends : (q : PieceId) (l : Leave) → over x ≡ 0 → leg_left a x ≡ Ended q l → y ≡ Over q l → left ≤ 16 → 1 ≤ todo → Led a x y all todo left
 
 -- what an answer of the host leads to
-pub data Replied (m : Model) (g : Image) (a : PieceProgram) (x : PiecesNow) (todo : ℕ) : Answered → Type 0 where
+pub data Replied (m : Model) (g : Image) (a : PieceProgram) (x : PiecesNow) (s : State) (todo : ℕ) : Answered → Type 0 where
   Goes_on : (c : Calls) (u : State) (y : PiecesNow) (path : List State) (left : ℕ) → next a x ≡ y → Stands m g y c u path left → leg_left a y ≡ leg_left a x → rest_of a y ≡ rest_of a x → left + 1 ≤ todo
-      → (world_now a y).failures ≡ (world_now a x).failures → Replied m g a x todo (Resumes c u)
-  Ends_by : (c : Calls) (end : End) (q : PieceId) (op : OptOp) (rest : List OptOp) (env : Opt) → x ≡ In q (op ∷ rest) env → EndsBy m (a.world env) (a.step op env) c end → Replied m g a x todo (Stops c end)
+      → (world_now a y).failures ≡ (world_now a x).failures → Replied m g a x s todo (Resumes c u)
+  Ends_by : (c : Calls) (end : End) (q : PieceId) (op : OptOp) (rest : List OptOp) (env : Opt) → x ≡ In q (op ∷ rest) env → EndsBy m (a.world env) (a.step op env) c s end → Replied m g a x s todo (Stops c end)
 
 -- One instruction of an activation that stands beside x, which is ready.
 pub data Kept (m : Model) (g : Image) (a : PieceProgram) (rows : List ExitRow) (x : PiecesNow) (c : Calls) (s : State) (todo : ℕ) (done : Acted) : Type 0 where
@@ -82,7 +82,7 @@ pub data Kept (m : Model) (g : Image) (a : PieceProgram) (rows : List ExitRow) (
       → Led a x y (length g.slots) todo left → (world_now a y).failures ≡ (world_now a x).failures → Kept m g a rows x c s todo done
   Failing : (t : State) (y : PiecesNow) (path : List State) (left : ℕ) → done ≡ acted Went t → CountsFailure (code_in g) rows s → next a x ≡ y → Stands m g y c t path left
       → Led a x y (length g.slots) todo left → (world_now a y).failures ≡ (world_now a x).failures + 1 → Kept m g a rows x c s todo done
-  Asking : (entry : ℕ) (t : State) → done ≡ acted (Stopped (HostCall entry)) t → ((o : Answered) → m.host.answers entry c t o → Replied m g a x todo o) → Kept m g a rows x c s todo done
+  Asking : (entry : ℕ) (t : State) → done ≡ acted (Stopped (HostCall entry)) t → ((o : Answered) → m.host.answers entry c t o → Replied m g a x t todo o) → Kept m g a rows x c s todo done
   Returning_by : (pl : Placed) (op : OptOp) (before rest : List OptOp) (l : Leave) → done ≡ stops Returned s → Contains g.placed pl → ops_at m.pieces pl.id ≡ before ++ op ∷ rest → EndsAs (exit_of op) l → JumpAt g (pl.key + length before)
       → x ≡ Over pl.id (ended l) → reg s (record { 0 = 0 }) ≡ pos (g.number (pl.key + length before)) → m.gone pl.id (length before) l c s → Kept m g a rows x c s todo done
   Straying : (q : PieceId) (w : World) → x ≡ Over q (Wrong w) → Kept m g a rows x c s todo done

@@ -1,5 +1,5 @@
 -- What holds of runs on an image, whatever selection and the host are.
-use Rattle.std.specs.Prelude.{◌≡◌, ◌≢◌, ℕ, ◌+◌, ◌*◌, ◌^◌, ◌<◌, ◌≤◌, ◌⊎◌, Bool, List, [], ◌∷◌, ◌++◌, length, map, slice_set, slice_index_or, None}
+use Rattle.std.specs.Prelude.{◌≡◌, ◌≢◌, ℕ, ◌+◌, ◌-◌, ◌*◌, ◌^◌, ◌<◌, ◌≤◌, ◌⊎◌, Bool, List, [], ◌∷◌, ◌++◌, length, map, slice_set, slice_index_or, None}
 use Rattle.trace_ops.specs.declared.trace.TraceSet.{TraceSet}
 use Rattle.trace_ops.specs.declared.piece.Piece.{Piece}
 use Rattle.trace_ops.specs.declared.piece.PieceId.{PieceId}
@@ -157,11 +157,11 @@ WaitsBackward m =
 abbrev pub MisfitsBackward : Model → Type 0
 MisfitsBackward m =
     (g : Image) (b : Begun) (act : Activation) (call : ℕ) (z : Refused m g b act (Misfitting call)) (n : ℕ)
-    → act.machine.instructions + 1 ≤ n → (w : World) × (legs (pieces m.set m.pieces act.cuts) n (first_leg b) ≡ Ended z.piece (Misfits w)) × m.called w act.calls
+    → act.machine.instructions + 1 ≤ n → (w : World) × (legs (pieces m.set m.pieces act.cuts) n (first_leg b) ≡ Ended z.piece (Misfits w)) × m.called w act.calls × (call ≡ length w.log - 1)
 
 -- where the arena is full, it is so beside the pieces
 abbrev pub FullBeside : Model → Type 0
-FullBeside m = (g : Image) (b : Begun) (act : Activation) (asked left : ℕ) (z : Refused m g b act (Full asked left)) → m.fills z.env.world (opt_step m.set.table z.op z.env) asked left
+FullBeside m = (g : Image) (b : Begun) (act : Activation) (asked left : ℕ) (z : Refused m g b act (Full asked left)) → m.fills z.env.world (opt_step m.set.table z.op z.env) act.machine asked left
 
 -- ---- calls, and the instruction pointer
 

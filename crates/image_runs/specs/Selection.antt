@@ -1,6 +1,6 @@
 -- What selection shows of a piece's code. What holds in front of an operation, where it is left, and what is found after a
 -- return are relations that the argument about events never looks into.
-use Rattle.std.specs.Prelude.{◌≡◌, ℕ, ◌+◌, ◌^◌, ◌<◌, ◌⊎◌, List, [], ◌∷◌, ◌++◌, length}
+use Rattle.std.specs.Prelude.{◌≡◌, ℕ, ◌+◌, ◌-◌, ◌^◌, ◌<◌, ◌⊎◌, List, [], ◌∷◌, ◌++◌, length}
 use Rattle.target_base.specs.declared.reg.Reg.{Reg}
 use Rattle.x64_encode.specs.declared.instr.Instr.TheVariants.{CallReg}
 use Rattle.x64_machine.specs.declared.state.Stop.TheVariants.{HostCall}
@@ -54,8 +54,8 @@ pub record Model : Type 1 where
   pub left : PieceId → ℕ → Leave → Calls → State → Type 0
   -- at the return: they are found where the row says
   pub gone : PieceId → ℕ → Leave → Calls → State → Type 0
-  -- more bytes are asked for than are left, where an operation begins in this world and turns out so
-  pub fills : World → Turn Opt → (asked left : ℕ) → Type 0
+  -- more bytes are asked for than are left, where an operation that begins in this world and turns out so has called the host
+  pub fills : World → Turn Opt → State → (asked left : ℕ) → Type 0
   -- the host's calls are those of the world, and each of these says so
   pub called : World → Calls → Type 0
   pub tells : (q : PieceId) (j : ℕ) (env : Opt) (c : Calls) (s : State) → holds q j env c s → called env.world c
@@ -100,23 +100,23 @@ pub record ComesOff (m : Model) (pl : Placed) (j : ℕ) (op : OptOp) (xs : List 
   pub kind : LeaveIs (exit_of op) l
 
 -- the answer that ends a call is the operation's; where the arena is full, that is so beside the pieces
-abbrev pub EndsBy : Model → World → Turn Opt → Calls → End → Type 0
-EndsBy m u turn c (Full asked left) = m.fills u turn asked left
-EndsBy m u (Off (Waits w)) c Waiting = m.called w c
-EndsBy m u (Off (Misfits w)) c (Misfitting n) = m.called w c
-EndsBy m u turn c end = ⊥
+abbrev pub EndsBy : Model → World → Turn Opt → Calls → State → End → Type 0
+EndsBy m u turn c s (Full asked left) = m.fills u turn s asked left
+EndsBy m u (Off (Waits w)) c s Waiting = m.called w c
+EndsBy m u (Off (Misfits w)) c s (Misfitting n) = m.called w c × (n ≡ length w.log - 1)
+EndsBy m u turn c s end = ⊥
 
 -- Where the host answers, the operation goes on, and the run comes to the next one; or it ends as the operation does.
-abbrev pub AnswerDoes : Model → Placed → ℕ → ℕ → List Slot → List Slot → World → Turn Opt → Answered → Type 0
-AnswerDoes m pl j q rest more w turn (Resumes c u) = (after : Opt) × (turn ≡ On after) × Comes m.followed q rest u more (λ v. m.holds pl.id (j + 1) after c v) × (u.at ≡ 0x40000000 + q)
-AnswerDoes m pl j q rest more w turn (Stops c end) = EndsBy m w turn c end
+abbrev pub AnswerDoes : Model → Placed → ℕ → ℕ → List Slot → List Slot → World → Turn Opt → State → Answered → Type 0
+AnswerDoes m pl j q rest more w turn s (Resumes c u) = (after : Opt) × (turn ≡ On after) × Comes m.followed q rest u more (λ v. m.holds pl.id (j + 1) after c v) × (u.at ≡ 0x40000000 + q)
+AnswerDoes m pl j q rest more w turn s (Stops c end) = EndsBy m w turn c s end
 
 -- the machine stands in front of the call of operation j
 pub record AtCall (m : Model) (pl : Placed) (j : ℕ) (r : Reg) (rest more : List Slot) (world : World) (turn : Turn Opt) (c : Calls) (q : ℕ) (t : State) : Type 0 where
   pub entry : ℕ
   pub stopped : State
   pub stops : (by : Jumps) (code : List ℕ) → length code < 2 ^ 32 → Lists by code q (Put (CallReg r) ∷ rest) → MachineStep code t (acted (Stopped (HostCall entry)) stopped)
-  pub answered : (o : Answered) → m.host.answers entry c stopped o → AnswerDoes m pl j (q + size_of (Put (CallReg r))) rest more world turn o
+  pub answered : (o : Answered) → m.host.answers entry c stopped o → AnswerDoes m pl j (q + size_of (Put (CallReg r))) rest more world turn stopped o
 
 -- the run comes to the call of operation j
 pub record CallsHost (m : Model) (pl : Placed) (j : ℕ) (xs more : List Slot) (p : ℕ) (s : State) (c : Calls) (world : World) (turn : Turn Opt) : Type 0 where

@@ -1,0 +1,3 @@
+mod CallsKept
+mod Splitting
+mod Doing

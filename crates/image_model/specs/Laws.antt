@@ -1,0 +1,69 @@
+-- Selected pieces do what their operations do.
+use Rattle.std.specs.Prelude.{◌≡◌, ℕ, ◌+◌, ◌^◌, ◌<◌, ℤ, IsTrue, Bool, true, false, List, [], ◌∷◌, ◌++◌}
+use Rattle.trace_ops.specs.Words.{IsWord}
+use Rattle.trace_ops.specs.declared.trace.TraceSet.{TraceSet}
+use Rattle.trace_ops.specs.declared.piece.Piece.{Piece}
+use Rattle.trace_ops.specs.declared.piece.PieceId.{PieceId}
+use Rattle.trace_ops.specs.declared.piece.OptOp.{OptOp}
+use Rattle.trace_ops.specs.declared.piece.OptOp.TheVariants as opt
+use Rattle.target_base.specs.Arena.{Arena}
+use Rattle.trace_meaning.specs.Legs.{Leave, Turn, On, Off}
+use Rattle.opt_meaning.specs.Step.{Opt, opt_step}
+use Rattle.opt_meaning.specs.Pieces.{ops_at}
+use Rattle.x64_machine.specs.State.{State}
+use Rattle.asm_select.specs.declared.told.Told.{Told}
+use Rattle.asm_select.specs.declared.told.Told.TheVariants as tell
+use Rattle.asm_select.specs.Slots.{Slot, sizes_of}
+use Rattle.asm_select.specs.Valued.{MayHold}
+use Rattle.asm_select.specs.Chosen.{Setting, told_by, code_of}
+use Rattle.asm_select.specs.Reached.{AreApart}
+use Rattle.asm_select.specs.Ended.{TableServes}
+use Rattle.asm_select.specs.Asked.{AreSafe, AreChosen, AtCall, HostLeft, given_by, entry_by, in_host, returned}
+use Rattle.image_runs.specs.Session.{Calls, Answered, Resumes, Stops, Host}
+use Rattle.image_runs.specs.Selection.{Model, Placed, joined, start_of, EndsBy, PieceDoes}
+use Rattle.image_runs.specs.Selection as selection
+use Rattle.image_model.specs.Modelled.{SameCalls, model_of}
+
+-- the slots of each operation, of which the first has this key
+abbrev pub codes_from : Setting → ℕ → Told → List OptOp → List (List Slot)
+codes_from st k told [] = []
+codes_from st k told (op ∷ ops) = code_of st k told op ops ∷ codes_from st (k + 1) (told_by op ops) ops
+
+-- a piece ends with a jump, an exit or a finish
+abbrev pub closes : OptOp → Bool
+closes (opt.Plain operation r args d) = false
+closes (opt.Guard operation args n snap) = false
+closes (opt.Exit n snap) = true
+closes (opt.Jump to args) = true
+closes (opt.Finish value) = true
+
+-- a piece whose operations are chosen, in a code that isn't too long
+pub record IsSelected (set : TraceSet) (ps : List Piece) (settings : PieceId → Setting) (pl : Placed) : Type 0 where
+  pub table : (settings pl.id).table ≡ set.table
+  pub serves : TableServes (settings pl.id).table
+  pub hold : (b : ℕ) → MayHold ((settings pl.id).at b)
+  pub apart : AreApart (settings pl.id).at (ops_at ps pl.id)
+  pub safe : AreSafe (settings pl.id).at (ops_at ps pl.id)
+  pub chosen : AreChosen (settings pl.id) pl.key tell.Nothing (ops_at ps pl.id)
+  pub codes : pl.codes ≡ codes_from (settings pl.id) pl.key tell.Nothing (ops_at ps pl.id)
+  pub small : start_of pl + sizes_of (joined pl.codes) < 2 ^ 32
+  pub some : (op : OptOp) × (ops : List OptOp) × (ops_at ps pl.id ≡ op ∷ ops)
+  pub closed : (done : List OptOp) (op : OptOp) → ops_at ps pl.id ≡ done ++ op ∷ [] → IsTrue (closes op)
+
+-- what the host answers, where an operation asks it and turns out so
+abbrev pub ServedSo : Model → Setting → OptOp → Opt → ℕ → State → Turn Opt → Answered → Type 0
+ServedSo m st op env q u (On after) (Resumes c v) =
+    (z lost : ℤ) × (arena : Arena) × IsWord lost × HostLeft st.table (given_by op after) env.world.objects after.world.objects z arena × (v ≡ returned op q u z lost arena) × SameCalls after.world c
+ServedSo m st op env q u (Off l) (Resumes c v) = ⊥
+ServedSo m st op env q u turn (Stops c end) = EndsBy m env.world turn c (in_host op q u) end
+
+abbrev pub HostServes : Host → TraceSet → List Piece → (PieceId → Setting) → Type 0
+HostServes host set ps settings =
+    (q : PieceId) (op : OptOp) (env : Opt) (p : ℕ) (u : State) (c : Calls) (o : Answered)
+    → AtCall (settings q) op env p u → SameCalls env.world c → host.answers (entry_by op) c (in_host op p u) o
+    → ServedSo (model_of host set ps settings) (settings q) op env p u (opt_step set.table op env) o
+
+abbrev pub SelectedPiecesDo : Host → Type 0
+SelectedPiecesDo host =
+    (set : TraceSet) (ps : List Piece) (settings : PieceId → Setting) (pl : Placed)
+    → HostServes host set ps settings → IsSelected set ps settings pl → PieceDoes (model_of host set ps settings) pl

@@ -1,5 +1,5 @@
 -- Selected pieces do what their operations do.
-use Rattle.std.specs.Prelude.{◌≡◌, ℕ, ◌+◌, ◌^◌, ◌<◌, ℤ, IsTrue, Bool, true, false, List, [], ◌∷◌, ◌++◌}
+use Rattle.std.specs.Prelude.{◌≡◌, ℕ, ◌+◌, ◌^◌, ◌<◌, ℤ, IsTrue, Bool, true, false, List, [], ◌∷◌, ◌++◌, Some, slice_get}
 use Rattle.trace_ops.specs.Words.{IsWord}
 use Rattle.trace_ops.specs.declared.trace.TraceSet.{TraceSet}
 use Rattle.trace_ops.specs.declared.piece.Piece.{Piece}
@@ -7,22 +7,29 @@ use Rattle.trace_ops.specs.declared.piece.PieceId.{PieceId}
 use Rattle.trace_ops.specs.declared.piece.OptOp.{OptOp}
 use Rattle.trace_ops.specs.declared.piece.OptOp.TheVariants as opt
 use Rattle.target_base.specs.Arena.{Arena}
-use Rattle.trace_meaning.specs.Legs.{Leave, Turn, On, Off}
+use Rattle.trace_meaning.specs.Legs.{Leave, Fails, Jumps, Turn, On, Off}
 use Rattle.opt_meaning.specs.Step.{Opt, opt_step}
-use Rattle.opt_meaning.specs.Pieces.{ops_at}
-use Rattle.x64_machine.specs.State.{State}
+use Rattle.opt_meaning.specs.Pieces.{ops_at, label_at, begin_at}
+use Rattle.x64_machine.specs.State.{State, target}
 use Rattle.asm_select.specs.declared.told.Told.{Told}
 use Rattle.asm_select.specs.declared.told.Told.TheVariants as tell
-use Rattle.asm_select.specs.Slots.{Slot, sizes_of}
-use Rattle.asm_select.specs.Valued.{MayHold}
+use Rattle.asm_select.specs.Slots.{Slot, puts, sizes_of}
+use Rattle.asm_select.specs.Valued.{value, IsFit, MayHold}
 use Rattle.asm_select.specs.Chosen.{Setting, told_by, code_of}
-use Rattle.asm_select.specs.Reached.{AreApart}
+use Rattle.asm_select.specs.Reached.{AreApart, SameArena}
+use Rattle.asm_select.specs.Exited.{shown_by}
 use Rattle.asm_select.specs.Ended.{TableServes}
 use Rattle.asm_select.specs.Asked.{AreSafe, AreChosen, AtCall, HostLeft, given_by, entry_by, in_host, returned}
 use Rattle.image_runs.specs.Session.{Calls, Answered, Resumes, Stops, Host}
 use Rattle.image_runs.specs.Selection.{Model, Placed, joined, start_of, EndsBy, PieceDoes}
-use Rattle.image_runs.specs.Selection as selection
-use Rattle.image_model.specs.Modelled.{SameCalls, model_of}
+use Rattle.image_runs.specs.Image.{moved, Exits}
+use Rattle.guard_exit.specs.Codes.{stub_code}
+use Rattle.trace_ops.specs.declared.trace.BoxId.{BoxId}
+use Rattle.target_base.specs.declared.place.Place.{Place}
+use Rattle.trace_meaning.specs.declared.value.Value.{Value}
+use Rattle.trace_meaning.specs.World.{World, failed}
+use Rattle.std.specs.List.{AllZip}
+use Rattle.image_model.specs.Modelled.{SameCalls, HoldsAt, LeftAt, model_of}
 
 -- the slots of each operation, of which the first has this key
 abbrev pub codes_from : Setting → ℕ → Told → List OptOp → List (List Slot)
@@ -67,3 +74,27 @@ abbrev pub SelectedPiecesDo : Host → Type 0
 SelectedPiecesDo host =
     (set : TraceSet) (ps : List Piece) (settings : PieceId → Setting) (pl : Placed)
     → HostServes host set ps settings → IsSelected set ps settings pl → PieceDoes (model_of host set ps settings) pl
+
+-- ---- behind a jump that was taken
+
+-- into a stub: the run comes to the return, where each word is found
+abbrev pub StubsExit : Host → Type 0
+StubsExit host =
+    (set : TraceSet) (ps : List Piece) (settings : PieceId → Setting) (q : PieceId) (j : ℕ) (l : Leave) (c : Calls) (at common exit n : ℕ) (to : ℤ) (t : State)
+    → LeftAt (settings q) (ops_at ps q) j l c t → exit < 2 ^ 32 → n ≡ 0x40000000 + at → target (0x40000000 + (at + sizes_of (puts (stub_code to exit)))) to ≡ 0x40000000 + common
+    → Exits (model_of host set ps settings) q j l c at common exit to (moved n t)
+
+-- into a piece to whose label's places the values were brought: it begins
+abbrev pub JumpsHold : Type 0
+JumpsHold =
+    (ps : List Piece) (settings : PieceId → Setting) (q r : PieceId) (j : ℕ) (vs : List Value) (w : World) (c : Calls) (n : ℕ) (t : State)
+    → (settings r).table ≡ (settings q).table → AllZip (λ (p : Place) (b : BoxId). (settings r).at b.number ≡ p) (settings q).to (label_at ps r)
+    → LeftAt (settings q) (ops_at ps q) j (Jumps vs w) c t → HoldsAt (settings r) (ops_at ps r) 0 (begin_at ps r vs w) c (moved n t)
+
+-- into a bridge's piece, when its entry moves have brought the guard's boxes to the places of its label: it begins
+abbrev pub GuardsHold : Type 0
+GuardsHold =
+    (ps : List Piece) (settings : PieceId → Setting) (q r : PieceId) (j k : ℕ) (op : OptOp) (vs : List Value) (w : World) (c : Calls) (t u : State)
+    → (settings r).table ≡ (settings q).table → slice_get (ops_at ps q) j ≡ Some op → LeftAt (settings q) (ops_at ps q) j (Fails k vs w) c t
+    → IsFit u → SameArena t u → AllZip (λ (a b : BoxId). value u ((settings r).at b.number) ≡ value t ((settings q).at a.number)) (shown_by op) (label_at ps r)
+    → HoldsAt (settings r) (ops_at ps r) 0 (begin_at ps r vs (failed w)) c u

@@ -5,4 +5,4 @@ mod hosted;
 mod laws;
 
 pub use hosted::Hosted;
-pub use laws::selected_pieces_do;
+pub use laws::{guards_hold, jumps_hold, selected_pieces_do, stubs_exit};

@@ -64,12 +64,14 @@ ServedSo m st op env q u (On after) (Resumes c v) =
 ServedSo m st op env q u (Off l) (Resumes c v) = ⊥
 ServedSo m st op env q u turn (Stops c end) = EndsBy m env.world turn c (in_host op q u) end
 
+-- a host serves each operation that asks it
 abbrev pub HostServes : Host → TraceSet → List Piece → (PieceId → Setting) → Type 0
 HostServes host set ps settings =
     (q : PieceId) (op : OptOp) (env : Opt) (p : ℕ) (u : State) (c : Calls) (o : Answered)
     → AtCall (settings q) op env p u → SameCalls env.world c → host.answers (entry_by op) c (in_host op p u) o
     → ServedSo (model_of host set ps settings) (settings q) op env p u (opt_step set.table op env) o
 
+-- so selected pieces do what an image asks of a piece
 abbrev pub SelectedPiecesDo : Host → Type 0
 SelectedPiecesDo host =
     (set : TraceSet) (ps : List Piece) (settings : PieceId → Setting) (pl : Placed)

@@ -5,13 +5,13 @@ use Rattle.std.specs.List.{AllByRecursion}
 use Rattle.std.proofs.lemmas.List.{map-append}
 use Rattle.std.proofs.lemmas.Bool.{lt-leb}
 use Rattle.std.proofs.Math.Nat.{mul-le-mul_left}
+use Rattle.lists.specs.Has.{Has}
 use Rattle.x64_encode.specs.declared.instr.Instr.TheVariants as instr
 use Rattle.x64_machine.specs.State.{State}
 use Rattle.asm_select.specs.Slots.{Slot, Put, Lists, sizes_of}
 use Rattle.trace_meaning.specs.declared.value.Value.{Value}
 use Rattle.trace_meaning.specs.World.{World}
 use Rattle.trace_meaning.specs.Legs.{Leave, Turn, drive, In, Over, run, Leg, At, land, leg}
-use Rattle.trace_ops.specs.declared.piece.Half.{Half}
 use Rattle.trace_ops.specs.declared.piece.PieceId.{PieceId}
 use Rattle.trace_ops.specs.declared.piece.OptOp.{OptOp}
 use Rattle.opt_meaning.specs.Step.{Opt}
@@ -22,7 +22,7 @@ use Rattle.opt_meaning.specs.Pieces.{seen_piece, PiecesNow, pieces, bridge_piece
 use Rattle.image_runs.specs.Session.{Calls, Answered, Resumes, Stops, Activation, with_cut}
 use Rattle.trace_meaning.specs.Observed.{world_left}
 use Rattle.image_runs.specs.Selection.{Model, Placed, AnswerDoes}
-use Rattle.image_runs.specs.Image.{Image, code_in, HasSlots, JumpAt, IsHere as PieceHere, IsIn, IsClosed}
+use Rattle.image_runs.specs.Image.{Image, code_in, HasSlots, JumpAt, IsHere as PieceHere, IsClosed}
 use Rattle.image_runs.specs.Standing.{Way, Walking, Leaving, Calling, Returning, Stands, Walks, Leaves, Asks, Returns}
 use Rattle.image_runs.specs.Kept.{AreUpTo, first_of, leg_left, rest_of, over}
 use Rattle.image_runs.specs.Following.{Begun, first_now, first_leg, Reached, Beside, Follows, Goes, Shows_end, Refuses, Strays, IsActive}
@@ -58,11 +58,11 @@ is_none None = 1
 is_none (Some n) = 0
 
 -- what is seen is attached, and a bridge of the guard
-pub seen_in : (g : List Trace) (cuts : Cuts) (p n i b : ℕ) → seen_bridge g cuts p n i ≡ Some b → IsIn (map first_of cuts) b × (is_bridge_of g p n b ≡ true)
+pub seen_in : (g : List Trace) (cuts : Cuts) (p n i b : ℕ) → seen_bridge g cuts p n i ≡ Some b → Has (map first_of cuts) b × (is_bridge_of g p n b ≡ true)
 seen_in g [] p n i b e = absurd (let z : 1 ≡ 0 = ap is_none e in omega (arith, z))
 seen_in g (c ∷ cs) p n i b e = at_first (seen_in g cs p n i b) (is_bridge_of g p n c.0) (nat_le c.1 i) refl e
   where
-    at_first : (seen_bridge g cs p n i ≡ Some b → IsIn (map first_of cs) b × (is_bridge_of g p n b ≡ true)) → (x y : Bool) → is_bridge_of g p n c.0 ≡ x → cond (x && y) (Some c.0) (seen_bridge g cs p n i) ≡ Some b → IsIn (map first_of (c ∷ cs)) b × (is_bridge_of g p n b ≡ true)
+    at_first : (seen_bridge g cs p n i ≡ Some b → Has (map first_of cs) b × (is_bridge_of g p n b ≡ true)) → (x y : Bool) → is_bridge_of g p n c.0 ≡ x → cond (x && y) (Some c.0) (seen_bridge g cs p n i) ≡ Some b → Has (map first_of (c ∷ cs)) b × (is_bridge_of g p n b ≡ true)
     at_first go true true h f = (inl (ap some_of f), ap (is_bridge_of g p n) (sym (ap some_of f)) ∙ h)
     at_first go true false h f = let r = go f in (inr r.0, r.1)
     at_first go false y h f = let r = go f in (inr r.0, r.1)
@@ -98,7 +98,7 @@ module _ (m : Model) (p : List Piece) (g : Image) (bs : List ℕ) (kept : AreKep
     where
       then_same : (o : Option ℕ) → seen_bridge m.set.traces cuts q.trace n i ≡ o → option_and_then (bridge_piece p q.half) o ≡ option_and_then (bridge_piece m.pieces q.half) o
       then_same None e = refl
-      then_same (Some b) e = kept.bridges q.half b (subst (λ (l : List ℕ). IsIn l b) here (seen_in m.set.traces cuts q.trace n i b e).0)
+      then_same (Some b) e = kept.bridges q.half b (subst (λ (l : List ℕ). Has l b) here (seen_in m.set.traces cuts q.trace n i b e).0)
 
   sees_here : (q r : PieceId) (n i : ℕ) → PieceHere g q → seen_piece m.set m.pieces cuts q n i ≡ Some r → PieceHere g r
   sees_here q r n i h = seen_here (seen_bridge m.set.traces cuts q.trace n i) refl
@@ -111,7 +111,7 @@ module _ (m : Model) (p : List Piece) (g : Image) (bs : List ℕ) (kept : AreKep
           nothing (Some x) = 0
       seen_here (Some b) e f =
           let s = seen_in m.set.traces cuts q.trace n i b e in
-          closed.bridges q r n b h (subst (λ (l : List ℕ). IsIn l b) here s.0) s.1 f
+          closed.bridges q r n b h (subst (λ (l : List ℕ). Has l b) here s.0) s.1 f
 
   piece_same : (q : PieceId) → PieceHere g q → piece_at p q ≡ piece_at m.pieces q
   piece_same q h = subst (λ (i : PieceId). piece_at p i ≡ piece_at m.pieces i) h.2 (kept.placed h.0 h.1)

@@ -3,13 +3,13 @@ use Rattle.std.proofs.Common.{◌≡◌, ℕ, ◌+◌, Bool, true, false, cond, 
 use Rattle.std.specs.Prelude.{option_and_then}
 use Rattle.std.specs.List.{Contains}
 use Rattle.std.proofs.lemmas.List.Elements.{Contains-append_left, Contains-append_right, Contains-append_cases}
+use Rattle.lists.specs.Has.{Has}
 use Rattle.x64_encode.specs.declared.instr.Instr.TheVariants as instr
 use Rattle.x64_machine.specs.State.{State, target}
 use Rattle.asm_select.specs.Slots.{Slot, Put, sizes_of, size_of, puts}
 use Rattle.guard_exit.specs.Codes.{stub_code, common_code}
 use Rattle.trace_meaning.specs.World.{World, failed}
 use Rattle.trace_meaning.specs.Legs.{Leave as Left, Fails, Jumps, Finishes, Waits, Misfits, Wrong, Turn, On, Off}
-use Rattle.trace_ops.specs.declared.piece.Half.{Half}
 use Rattle.trace_ops.specs.declared.piece.PieceId.{PieceId}
 use Rattle.trace_ops.specs.declared.piece.OptOp.{OptOp}
 use Rattle.opt_meaning.specs.Step.{Opt, opt_step}
@@ -20,7 +20,7 @@ use Rattle.image_runs.specs.Counted.{IsGuards}
 use Rattle.image_runs.specs.Session.{Calls, Answered, Resumes, Stops}
 use Rattle.image_runs.specs.Reached.{IsJumpOf}
 use Rattle.image_runs.specs.Selection.{Exit, Guarded, Jumping, Finishing, Inside, Model, Placed, ComesOff, CallsHost, AnswerDoes, Does, PieceDoes, joined, code_of, start_of, exit_of}
-use Rattle.image_runs.specs.Image.{Image, HasSlots, moved, Exits, ToStub, ToBridge, ToPiece, GuardLeads, Leads, IsPlaced, IsIn, JumpAt, RowOf, RowsAre, IsImage, disp_in}
+use Rattle.image_runs.specs.Image.{Image, HasSlots, moved, Exits, ToStub, ToBridge, ToPiece, GuardLeads, Leads, IsPlaced, JumpAt, RowOf, RowsAre, IsImage, disp_in}
 use Rattle.trace_ops.specs.declared.piece.Piece.{Piece}
 use Rattle.image_runs.specs.Attached.{widened}
 use Rattle.image_runs.specs.Attachment.{IsKey, SameKey, Attaches}
@@ -94,11 +94,11 @@ attached_now b (c ∷ cs) bridge p n e h = by_case (attached_now b cs bridge p n
     by_case go false k = go k
 
 -- the first attached one is among those that are attached
-pub attached_in : (b : List Trace) (bs : List ℕ) (p n x : ℕ) → attached_bridge b bs p n ≡ Some x → IsIn bs x
+pub attached_in : (b : List Trace) (bs : List ℕ) (p n x : ℕ) → attached_bridge b bs p n ≡ Some x → Has bs x
 attached_in b [] p n x e = absurd (let z : 1 ≡ 0 = ap none_no e in omega (arith, z))
 attached_in b (c ∷ cs) p n x e = by_case (attached_in b cs p n x) (is_bridge_of b p n c) e
   where
-    by_case : (attached_bridge b cs p n ≡ Some x → IsIn cs x) → (y : Bool) → cond y (Some c) (attached_bridge b cs p n) ≡ Some x → IsIn (c ∷ cs) x
+    by_case : (attached_bridge b cs p n ≡ Some x → Has cs x) → (y : Bool) → cond y (Some c) (attached_bridge b cs p n) ≡ Some x → Has (c ∷ cs) x
     by_case go true k = inl (ap (value_or c) k)
     by_case go false k = inr (go k)
 

@@ -12,7 +12,6 @@ use Rattle.image_runs.specs.Selection.{Model, EndsBy, ended}
 use Rattle.image_runs.specs.Image.{Image, code_in, IsImage}
 use Rattle.opt_meaning.specs.Pieces.{PiecesNow, pieces}
 use Rattle.image_runs.specs.Kept.{leg_left, over, Ready, Ahead, Slots, Hosts, Stubs, Lost}
-use Rattle.x64_machine.specs.Running.{InstructionsAreCounted}
 use Rattle.image_runs.specs.Following.{AnswersMakeNone, Begun, first_leg, Reached, Shown, Refused, Follows, Goes, Shows_end, Refuses, Strays, IsActive}
 use Rattle.image_runs.proofs.Following.{Prepared, prepare, no_end, steady_under, legs_suc, times_up}
 use Rattle.image_runs.specs.Relying.{Relies}

@@ -7,7 +7,7 @@ use Rattle.x64_machine.specs.declared.state.Turn.TheVariants.{Went, Stopped}
 use Rattle.x64_machine.specs.Words.{unsigned}
 use Rattle.x64_machine.specs.State.{State, Acted, acted, stops, reg}
 use Rattle.x64_machine.specs.Step.{MachineStep}
-use Rattle.asm_select.specs.Slots.{Slot, sizes_of, puts}
+use Rattle.asm_select.specs.Slots.{sizes_of, puts}
 use Rattle.guard_exit.specs.Codes.{common_code}
 use Rattle.trace_meaning.specs.declared.value.Value.{Value}
 use Rattle.trace_meaning.specs.World.{World}
@@ -24,12 +24,11 @@ use Rattle.image_runs.specs.Image.{Image, code_in, JumpAt, IsImage}
 use Rattle.opt_meaning.specs.Pieces.{PiecesNow, pieces, ops_at}
 use Rattle.image_runs.specs.Standing.{Stands, Walks, Leaves, Asks, Returns}
 use Rattle.image_runs.specs.Kept.{AreUpTo, first_of, leg_left, rest_of, StaysOpen, over, Ready, Ahead, Slots, Hosts, Stubs, Settled, Led, Within, Begins, Ends, Replied, Goes_on, Ends_by, Kept, Plainly, Failing, Asking, Returning_by, Straying}
-use Rattle.x64_machine.specs.Running.{InstructionsAreCounted}
 use Rattle.image_runs.specs.Following.{AnswersMakeNone, Begun, first_now, first_leg, Reached, Beside, guard_of, Follows, Goes, Shows_end, Refuses, Strays, IsActive}
 use Rattle.image_runs.proofs.Settling.{settles}
 use Rattle.image_runs.proofs.Stepping.{keeps}
 use Rattle.image_runs.specs.Relying.{Relies}
-use Rattle.image_runs.proofs.Bytes.{length-bytes, sizes-append, size_some, slots_few}
+use Rattle.image_runs.proofs.Bytes.{length-bytes, sizes-append, slots_few}
 use Rattle.opt_meaning.specs.Step.{opt_step}
 
 -- ---- runs and legs

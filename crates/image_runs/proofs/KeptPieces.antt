@@ -1,8 +1,7 @@
 -- What an attachment keeps of a piece that stands in the code.
-use Rattle.std.proofs.Common.{◌≡◌, ℕ, List, ap, Option}
+use Rattle.std.proofs.Common.{◌≡◌, List, ap, Option}
 use Rattle.std.specs.Prelude.{option_and_then}
 use Rattle.std.specs.Option.{unwrap_or}
-use Rattle.std.specs.List.{Contains}
 use Rattle.trace_ops.specs.declared.piece.Piece.{Piece}
 use Rattle.trace_ops.specs.declared.piece.PieceId.{PieceId}
 use Rattle.trace_meaning.specs.declared.value.Value.{Value}

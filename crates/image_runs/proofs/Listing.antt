@@ -1,28 +1,25 @@
 -- The listing of an image's code, and that a going activation stands at one of its places.
-use Rattle.std.proofs.Common.{◌≡◌, ℕ, ◌+◌, ◌-◌, ◌<◌, ◌≤◌, Bool, true, false, List, [], ◌∷◌, ◌++◌, length, map, append-nil, refl, sym, ap, ◌∙◌, subst, inl, inr, ◌⊎◌, arith, None}
+use Rattle.std.proofs.Common.{◌≡◌, ℕ, ◌+◌, Bool, false, List, [], ◌∷◌, ◌++◌, length, append-nil, refl, sym, ap, ◌∙◌, subst, inl, inr, ◌⊎◌, arith, None}
 use Rattle.std.proofs.lemmas.Bool.Decides.{nat_tests}
 use Rattle.lists.specs.Has.{Has}
 use Rattle.trace_ops.specs.declared.piece.PieceId.{PieceId}
 use Rattle.guard_exit.specs.declared.row.ExitRow.{ExitRow}
-use Rattle.x64_encode.specs.declared.instr.Instr.{Instr}
 use Rattle.x64_encode.specs.Listing.{Leads, Listing}
 use Rattle.x64_machine.specs.declared.state.Stop.TheVariants.{Returned, HostCall, BadAddress, BadCode, UndefinedFlag}
 use Rattle.x64_machine.specs.declared.state.Turn.{Turn}
 use Rattle.x64_machine.specs.declared.state.Turn.TheVariants.{Went, Stopped}
-use Rattle.x64_machine.specs.State.{State, Acted, acted, stops}
+use Rattle.x64_machine.specs.State.{State, Acted, stops}
 use Rattle.x64_machine.specs.Step.{ahead, is_in, StepWhere, MachineStep}
 use Rattle.trace_meaning.specs.World.{World}
-use Rattle.trace_meaning.specs.Legs.{Wrong, Over, run}
-use Rattle.trace_meaning.specs.Cuts.{Cuts}
+use Rattle.trace_meaning.specs.Legs.{Wrong, Over}
 use Rattle.opt_meaning.specs.Pieces.{pieces, PiecesNow}
 use Rattle.asm_select.specs.Slots.{Slot, Jumps, Lists, instr_of, size_of, sizes_of}
 use Rattle.image_runs.specs.Session.{Calls, Activation}
-use Rattle.image_runs.specs.Reached.{IsSpot}
 use Rattle.image_runs.specs.Selection.{Model}
 use Rattle.image_runs.specs.Image.{Image, code_in, IsImage}
-use Rattle.image_runs.specs.Runs.{PieceProgram, world_now}
-use Rattle.image_runs.specs.Kept.{AreUpTo, first_of, Kept, Plainly, Failing, Asking, Returning_by, Straying}
-use Rattle.image_runs.specs.Following.{AnswersMakeNone, Begun, first_now, Reached, Beside, Follows, Goes, Shows_end, Refuses, Strays, IsActive}
+use Rattle.image_runs.specs.Runs.{PieceProgram}
+use Rattle.image_runs.specs.Kept.{AreUpTo, Kept, Plainly, Failing, Asking, Returning_by, Straying}
+use Rattle.image_runs.specs.Following.{AnswersMakeNone, Begun, Beside, Follows, Goes, Shows_end, Refuses, Strays, IsActive}
 use Rattle.image_runs.specs.Attached.{Grown}
 use Rattle.image_runs.specs.Listed.{places_from, places_of, IsAtPlace, GoWrong}
 use Rattle.image_runs.specs.Relying.{Relies}

@@ -1,5 +1,5 @@
 -- No operation of a piece counts a failure.
-use Rattle.std.proofs.Common.{◌≡◌, ℕ, Bool, true, false, List, [], ◌∷◌, length, drop, refl, sym, ap, ◌∙◌, subst, Option, Some, None, ℤ, pos}
+use Rattle.std.proofs.Common.{◌≡◌, ℕ, Bool, true, false, List, [], ◌∷◌, drop, refl, ap, ◌∙◌, subst, Option, Some, None, ℤ, pos}
 use Rattle.std.specs.Prelude.{slice_get, ◌+ℤ◌, ◌-ℤ◌, ◌*ℤ◌, option_and_then}
 use Rattle.std.specs.Option.{option_map}
 use Rattle.trace_ops.specs.declared.code.OpCode.{OpCode}
@@ -23,13 +23,12 @@ use Rattle.trace_meaning.specs.declared.value.Value.TheVariants as v
 use Rattle.trace_meaning.specs.declared.value.Object.{Object}
 use Rattle.trace_meaning.specs.declared.call.Answer.{Answer}
 use Rattle.trace_meaning.specs.declared.call.AnswerStore.{AnswerStore}
-use Rattle.trace_meaning.specs.declared.call.Give.{Give}
 use Rattle.trace_meaning.specs.Values.{references}
 use Rattle.trace_meaning.specs.World.{World}
 use Rattle.trace_meaning.specs.Objects.{read, write, write_unfrozen, with_object, written, length_at, is_frozen, index_of}
 use Rattle.trace_meaning.specs.Folding.{fold}
 use Rattle.trace_meaning.specs.Answers.{fits, value_stored, or_same, write_given, store_done, stores_done, new_object, with_fresh, answer_done}
-use Rattle.trace_meaning.specs.Performing.{Done, Gave, Bad, Waited, Misfitted, value_done, write_done, overflowing, get_field, set_field, get_item, set_item, get_length, make_structure, make_items, make_array, answered_if, called_first, called, call_row, function_in, call_function, call, perform}
+use Rattle.trace_meaning.specs.Performing.{Done, Gave, Bad, Waited, Misfitted, value_done, write_done, overflowing, get_field, set_field, get_item, set_item, get_length, make_structure, make_items, make_array, answered_if, called_first, call_row, function_in, call_function, call, perform}
 use Rattle.trace_meaning.specs.Passing.{passes}
 use Rattle.trace_meaning.specs.Legs.{Leave, Fails, Jumps, Finishes, Turn, On, Off}
 use Rattle.trace_meaning.specs.Cuts.{Cuts}

@@ -2,6 +2,7 @@
 use Rattle.std.proofs.Common.{◌≡◌, ℕ, ◌+◌, Bool, true, false, cond, List, [], ◌∷◌, ◌++◌, length, refl, sym, ap, ◌∙◌, subst, inl, inr, arith, Option, Some, None}
 use Rattle.std.specs.Prelude.{option_and_then}
 use Rattle.std.specs.List.{Contains}
+use Rattle.lists.specs.Has.{Has}
 use Rattle.x64_machine.specs.State.{target}
 use Rattle.asm_select.specs.Slots.{Slot, Jumps, sizes_of, size_of}
 use Rattle.trace_ops.specs.declared.piece.PieceId.{PieceId}
@@ -11,7 +12,7 @@ use Rattle.image_runs.specs.Bridges.{attached_bridge}
 use Rattle.guard_exit.specs.declared.row.ExitRow.{ExitRow}
 use Rattle.image_runs.specs.Reached.{IsJumpOf}
 use Rattle.image_runs.specs.Selection.{Exit, Guarded, Jumping, Finishing, Inside, Model, Placed, exit_of}
-use Rattle.image_runs.specs.Image.{Image, ToStub, ToBridge, ToPiece, GuardLeads, Leads, IsIn, JumpAt, IsImage}
+use Rattle.image_runs.specs.Image.{Image, ToStub, ToBridge, ToPiece, GuardLeads, Leads, JumpAt, IsImage}
 use Rattle.image_runs.specs.Undone.{kept_bridges, undone, Undoes}
 use Rattle.image_runs.proofs.Attachment.{none_no, value_or, exit_no, guard_in}
 use Rattle.image_runs.proofs.Bytes.{length-bytes}
@@ -26,7 +27,7 @@ abbrev if_kept : (ℕ → Bool) → Option ℕ → Option ℕ
 if_kept keeps None = None
 if_kept keeps (Some b) = cond (keeps b) (Some b) None
 
-none_kept : (g : List Trace) (keeps : ℕ → Bool) (bs : List ℕ) (p n : ℕ) → ((b : ℕ) → IsIn bs b → is_bridge_of g p n b ≡ true → keeps b ≡ false) → attached_bridge g (kept_bridges keeps bs) p n ≡ None
+none_kept : (g : List Trace) (keeps : ℕ → Bool) (bs : List ℕ) (p n : ℕ) → ((b : ℕ) → Has bs b → is_bridge_of g p n b ≡ true → keeps b ≡ false) → attached_bridge g (kept_bridges keeps bs) p n ≡ None
 none_kept g keeps [] p n h = refl
 none_kept g keeps (c ∷ cs) p n h = by_keep (keeps c) (is_bridge_of g p n c) refl refl (none_kept g keeps cs p n (λ b i e. h b (inr i) e))
   where
@@ -35,7 +36,7 @@ none_kept g keeps (c ∷ cs) p n h = by_keep (keeps c) (is_bridge_of g p n c) re
     by_keep true true k i rest = absurd (let z : 1 ≡ 0 = ap truth_no (sym k ∙ h c (inl refl) i) in omega (arith, z))
     by_keep true false k i rest = ap (λ (b : Bool). cond b (Some c) (attached_bridge g (kept_bridges keeps cs) p n)) i ∙ rest
 
-attached_kept : (g : List Trace) (keeps : ℕ → Bool) (bs : List ℕ) (p n : ℕ) → ((b c : ℕ) → IsIn bs b → IsIn bs c → is_bridge_of g p n b ≡ true → is_bridge_of g p n c ≡ true → b ≡ c) → attached_bridge g (kept_bridges keeps bs) p n ≡ if_kept keeps (attached_bridge g bs p n)
+attached_kept : (g : List Trace) (keeps : ℕ → Bool) (bs : List ℕ) (p n : ℕ) → ((b c : ℕ) → Has bs b → Has bs c → is_bridge_of g p n b ≡ true → is_bridge_of g p n c ≡ true → b ≡ c) → attached_bridge g (kept_bridges keeps bs) p n ≡ if_kept keeps (attached_bridge g bs p n)
 attached_kept g keeps [] p n one = refl
 attached_kept g keeps (c ∷ cs) p n one = by_keep (keeps c) (is_bridge_of g p n c) refl refl (attached_kept g keeps cs p n (λ x y i j e f. one x y (inr i) (inr j) e f))
   where
@@ -45,11 +46,11 @@ attached_kept g keeps (c ∷ cs) p n one = by_keep (keeps c) (is_bridge_of g p n
     by_keep false true k i rest = none_kept g keeps cs p n (λ b j e. ap keeps (one b c (inr j) (inl refl) e i) ∙ k) ∙ ap (λ (b : Bool). cond b (Some c) None) (sym k)
     by_keep false false k i rest = rest
 
-in_kept : (keeps : ℕ → Bool) (bs : List ℕ) (b : ℕ) → IsIn (kept_bridges keeps bs) b → IsIn bs b
+in_kept : (keeps : ℕ → Bool) (bs : List ℕ) (b : ℕ) → Has (kept_bridges keeps bs) b → Has bs b
 in_kept keeps [] b h = h
 in_kept keeps (c ∷ cs) b h = by_keep (keeps c) (in_kept keeps cs b) h
   where
-    by_keep : (x : Bool) → (IsIn (kept_bridges keeps cs) b → IsIn cs b) → IsIn (cond x (c ∷ kept_bridges keeps cs) (kept_bridges keeps cs)) b → IsIn (c ∷ cs) b
+    by_keep : (x : Bool) → (Has (kept_bridges keeps cs) b → Has cs b) → Has (cond x (c ∷ kept_bridges keeps cs) (kept_bridges keeps cs)) b → Has (c ∷ cs) b
     by_keep true go (inl e) = inl e
     by_keep true go (inr i) = inr (go i)
     by_keep false go i = inr (go i)

@@ -25,6 +25,7 @@ pub record IsKey (m : Model) (g : Image) (e : ℕ) : Type 0 where
   pub ops : ops_at m.pieces pl.id ≡ done ++ op ∷ rest
   pub key : e ≡ pl.key + length done
 
+-- all that an image says of a key but its displacement is as it was
 pub record SameKey (g h : Image) (e : ℕ) : Type 0 where
   pub exit : h.exit e ≡ g.exit e
   pub owner : h.owner e ≡ g.owner e
@@ -41,6 +42,7 @@ pub record RowsMore (g h : Image) (more : List Slot) (rows news : List ExitRow) 
   pub one : (a b : ExitRow) → Contains news a → Contains news b → a.exit ≡ b.exit → a ≡ b
   pub apart : (a b : ExitRow) → Contains rows a → Contains news b → a.exit ≢ b.exit
 
+-- Pieces of one more bridge are appended, and each copy of its guard leads to them.
 pub record Attaches (m : Model) (p : List Piece) (g h : Image) (bs : List ℕ) (bridge : ℕ) (rows news : List ExitRow) : Type 0 where
   pub kept : AreKept m p g bs
   pub grown : Grown g h

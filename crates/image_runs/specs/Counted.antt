@@ -28,5 +28,6 @@ pub record TakesJump (code : List ℕ) (at : ℕ) (s : State) : Type 0 where
 abbrev pub IsGuards : ExitRow → Type 0
 IsGuards row = (n : ℕ) × (row.guard ≡ Some n)
 
+-- it takes the jump of a guard's row
 abbrev pub CountsFailure : List ℕ → List ExitRow → State → Type 0
 CountsFailure code rows s = (row : ExitRow) × Contains rows row × IsGuards row × TakesJump code row.at s

@@ -1,17 +1,12 @@
 -- An activation beside the run of its pieces, at every moment.
 use Rattle.std.specs.Prelude.{◌≡◌, ℕ, ◌+◌, ◌*◌, ◌≤◌, List, ◌∷◌, Option, Some, None, length, map, ◌⊎◌}
-use Rattle.x64_machine.specs.declared.state.Stop.TheVariants.{Returned, HostCall, BadAddress, BadCode, UndefinedFlag}
-use Rattle.x64_machine.specs.declared.state.Turn.{Turn}
-use Rattle.x64_machine.specs.declared.state.Turn.TheVariants.{Went, Stopped}
-use Rattle.x64_machine.specs.State.{State, Acted}
-use Rattle.x64_machine.specs.Step.{MachineStep}
+use Rattle.x64_machine.specs.State.{State}
 use Rattle.trace_meaning.specs.declared.value.Value.{Value}
 use Rattle.trace_meaning.specs.World.{World}
 use Rattle.trace_meaning.specs.Legs.{Leave, Fails, Wrong, In, Over, begins, run, Leg, At, drive, leg, legs}
 use Rattle.trace_ops.specs.declared.piece.PieceId.{PieceId}
 use Rattle.trace_ops.specs.declared.piece.OptOp.{OptOp}
 use Rattle.opt_meaning.specs.Step.{Opt, opt_step}
-use Rattle.trace_meaning.specs.Cuts.{Cuts}
 use Rattle.image_runs.specs.Runs.{PieceProgram, world_now}
 use Rattle.opt_meaning.specs.Pieces.{pieces, PiecesNow, preamble}
 use Rattle.guard_exit.specs.declared.row.ExitRow.{ExitRow}
@@ -37,9 +32,11 @@ pub record Begun : Type 0 where
 abbrev pub begun_of : Table → Activation → Begun
 begun_of t act = record { piece = preamble act.trace; values = act.inputs; world = first_world t act.given }
 
+-- the pieces at that moment, by operations and by legs
 abbrev pub first_now : PieceProgram → Begun → PiecesNow
 first_now a b = begins a b.piece b.values b.world
 
+-- the first leg
 abbrev pub first_leg : Begun → Leg PieceId
 first_leg b = At b.piece b.values b.world
 
@@ -68,6 +65,7 @@ pub record Beside (m : Model) (g : Image) (b : Begun) (act : Activation) : Type 
   pub exact : (world_now (pieces m.set m.pieces act.cuts) x).failures ≡ act.failures
   pub forward : act.machine.instructions + todo ≤ (reached.whole + 1 + over x) * length (code_in g)
 
+-- the guard that has failed
 abbrev pub guard_of : Leave → Option ℕ
 guard_of (Fails n vs w) = Some n
 guard_of l = None
@@ -92,6 +90,7 @@ pub record Refused (m : Model) (g : Image) (b : Begun) (act : Activation) (end :
   pub reached : Reached (pieces m.set m.pieces act.cuts) b (In piece (op ∷ rest) env) act.machine.instructions act.failures
   pub ends : EndsBy m env.world (opt_step m.set.table op env) act.calls act.machine end
 
+-- going, or ended as the pieces are, or strayed
 pub data Follows (m : Model) (g : Image) (b : Begun) (act : Activation) : Type 0 where
   Goes : act.end ≡ None → Beside m g b act → Follows m g b act
   Shows_end : (end : End) → act.end ≡ Some end → Shown m g b act end → Follows m g b act

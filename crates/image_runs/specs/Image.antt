@@ -1,6 +1,7 @@
 -- The model of a printed image: slots and displacements, the pieces that stand in them, and where each jump leads.
-use Rattle.std.specs.Prelude.{◌≡◌, ℕ, ◌+◌, ◌^◌, ◌<◌, ◌≤◌, ℤ, pos, List, [], ◌∷◌, ◌++◌, length, Option, Some, None, true, ◌⊎◌}
+use Rattle.std.specs.Prelude.{◌≡◌, ℕ, ◌+◌, ◌^◌, ◌<◌, ◌≤◌, ℤ, pos, List, ◌∷◌, ◌++◌, length, Option, Some, None, true, ◌⊎◌}
 use Rattle.std.specs.List.{Contains, AllByRecursion}
+use Rattle.lists.specs.Has.{Has}
 use Rattle.x64_machine.specs.declared.state.Stop.TheVariants.{Returned}
 use Rattle.x64_machine.specs.State.{State, reg, stops, target}
 use Rattle.x64_machine.specs.Step.{MachineStep}
@@ -33,9 +34,11 @@ pub record Image : Type 0 where
   pub leap : ℕ → ℤ
   pub common : ℕ
 
+-- the bytes
 abbrev pub code_in : Image → List ℕ
 code_in g = bytes_of g.by g.slots
 
+-- these slots stand at this offset
 abbrev pub HasSlots : List Slot → ℕ → List Slot → Type 0
 HasSlots slots p xs = (before : List Slot) × (behind : List Slot) × (slots ≡ before ++ (xs ++ behind)) × (p ≡ sizes_of before)
 
@@ -79,6 +82,7 @@ pub record ToPiece (m : Model) (g : Image) (pl : Placed) (j next : ℕ) : Type 0
   pub enters : (vs : List Value) (w : World) (c : Calls) (a : ℕ) (t : State) → m.left pl.id j (Jumping_off vs w) c t → a ≡ 0x40000000 + start_of to
       → m.holds to.id 0 (begin_at m.pieces to.id vs w) c (moved a t)
 
+-- to the stub, or to the piece of the bridge that is attached
 abbrev pub GuardLeads : Model → Image → Placed → ℕ → ℕ → ℕ → Option PieceId → Type 0
 GuardLeads m g pl j n next None = ToStub m g pl j next
 GuardLeads m g pl j n next (Some r) = ToBridge m g pl j n r next
@@ -90,6 +94,7 @@ Leads m g bs pl j next Jumping = ToPiece m g pl j next
 Leads m g bs pl j next Finishing = ToStub m g pl j next
 Leads m g bs pl j next Inside = Unit {0}
 
+-- the piece stands in the code, its keys are told, and each of its jumps leads where it should
 pub record IsPlaced (m : Model) (g : Image) (bs : List ℕ) (pl : Placed) : Type 0 where
   pub here : HasSlots g.slots pl.at (code_of pl)
   pub does : PieceDoes m pl
@@ -127,15 +132,12 @@ pub record RowsAre (g : Image) (rows : List ExitRow) : Type 0 where
 abbrev pub IsHere : Image → PieceId → Type 0
 IsHere g q = (pl : Placed) × Contains g.placed pl × (pl.id ≡ q)
 
-abbrev pub IsIn : List ℕ → ℕ → Type 0
-IsIn [] b = ⊥
-IsIn (x ∷ xs) b = (x ≡ b) ⊎ IsIn xs b
-
 -- what is here leads to what is here
 pub record IsClosed (m : Model) (g : Image) (bs : List ℕ) : Type 0 where
   pub targets : (q : PieceId) → IsHere g q → IsHere g (jump_target m.pieces q)
-  pub bridges : (q r : PieceId) (n b : ℕ) → IsHere g q → IsIn bs b → is_bridge_of m.set.traces q.trace n b ≡ true → bridge_piece m.pieces q.half b ≡ Some r → IsHere g r
+  pub bridges : (q r : PieceId) (n b : ℕ) → IsHere g q → Has bs b → is_bridge_of m.set.traces q.trace n b ≡ true → bridge_piece m.pieces q.half b ≡ Some r → IsHere g r
 
+-- The bytes, the pieces, the rows and the jumps belong together, when these bridges are attached.
 pub record IsImage (m : Model) (g : Image) (bs : List ℕ) (rows : List ExitRow) : Type 0 where
   pub have : HaveRows g.by g.slots
   pub small : length (code_in g) < 2 ^ 32

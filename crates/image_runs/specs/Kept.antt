@@ -39,9 +39,11 @@ abbrev pub rest_of : PieceProgram → PiecesNow → Option (PieceId × Leave)
 rest_of a (In q rest s) = Some (q, drive a.step a.world rest s)
 rest_of a (Over q l) = None
 
+-- the leg goes on as it would have, or is over
 abbrev pub StaysOpen : PieceProgram → PiecesNow → PiecesNow → Type 0
 StaysOpen a x y = (rest_of a y ≡ rest_of a x) ⊎ (rest_of a y ≡ None)
 
+-- 1 where the run is over
 abbrev pub over : PiecesNow → ℕ
 over (In q rest s) = 0
 over (Over q l) = 1

@@ -7,7 +7,7 @@ use Rattle.x64_encode.specs.Listing.{Listing, IsWhole}
 use Rattle.x64_machine.specs.State.{State, Acted}
 use Rattle.x64_machine.specs.Step.{MachineStep}
 use Rattle.trace_meaning.specs.World.{World}
-use Rattle.trace_meaning.specs.Legs.{Leave, Waits, Misfits, Wrong, run, Leg, Ended, leg, legs}
+use Rattle.trace_meaning.specs.Legs.{Leave, Waits, Misfits, Wrong, run, Leg, Ended, legs}
 use Rattle.trace_meaning.specs.Cuts.{Cuts}
 use Rattle.trace_meaning.specs.Observed.{world_left}
 use Rattle.opt_meaning.specs.Step.{opt_step}
@@ -71,6 +71,7 @@ RunsStayAlike m =
     → AreKept m ps g bs → IsClosed m g bs → map first_of cuts ≡ bs → runs.IsHere (IsHere g) x → (world_now (pieces m.set m.pieces cuts) (run (pieces m.set m.pieces cuts) n x)).failures ≤ k
     → run (pieces m.set ps (cuts ++ (bridge, k) ∷ [])) n x ≡ run (pieces m.set m.pieces cuts) n x
 
+-- the same by legs
 abbrev pub LegsStayAlike : Model → Type 0
 LegsStayAlike m =
     (ps : List Piece) (g : Image) (bs : List ℕ) (cuts : Cuts) (bridge k n : ℕ) (x : Leg PieceId)
@@ -149,11 +150,13 @@ ShownBackward m =
     (g : Image) (b : Begun) (act : Activation) (end : End) (z : Shown m g b act end) (n : ℕ)
     → act.machine.instructions + 1 ≤ n → legs (pieces m.set m.pieces act.cuts) n (first_leg b) ≡ Ended z.pl.id (ended z.leave)
 
+-- so has what waits for an answer
 abbrev pub WaitsBackward : Model → Type 0
 WaitsBackward m =
     (g : Image) (b : Begun) (act : Activation) (z : Refused m g b act Waiting) (n : ℕ)
     → act.machine.instructions + 1 ≤ n → (w : World) × (legs (pieces m.set m.pieces act.cuts) n (first_leg b) ≡ Ended z.piece (Waits w)) × m.called w act.calls
 
+-- and what had an answer that doesn't fit
 abbrev pub MisfitsBackward : Model → Type 0
 MisfitsBackward m =
     (g : Image) (b : Begun) (act : Activation) (call : ℕ) (z : Refused m g b act (Misfitting call)) (n : ℕ)

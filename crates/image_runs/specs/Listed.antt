@@ -10,10 +10,12 @@ use Rattle.image_runs.specs.Image.{Image}
 use Rattle.image_runs.specs.Runs.{PieceProgram}
 use Rattle.image_runs.specs.Following.{Begun, first_now}
 
+-- the places of slots from a place on
 abbrev pub places_from : ℕ → List Slot → List ℕ
 places_from p [] = []
 places_from p (x ∷ xs) = p ∷ places_from (p + size_of x) xs
 
+-- and of all slots of an image
 abbrev pub places_of : Image → List ℕ
 places_of g = places_from 0 g.slots
 

@@ -27,15 +27,18 @@ pub record Copy : Type 0 where
   pub slot : Slot
   pub behind : List Slot
 
+-- it is the one jump of its key
 pub record IsCopy (xs : List Slot) (c : Copy) : Type 0 where
   pub split : xs ≡ c.front ++ c.slot ∷ c.behind
   pub jump : IsJumpOf c.slot c.key
   pub front : IsAway c.key c.front
   pub behind : IsAway c.key c.behind
 
+-- its patch
 abbrev pub patch_of : Copy → Patch
 patch_of c = record { at = sizes_of c.front + disp_in c.slot; before = c.before; after = c.after }
 
+-- with all copies patched, in order
 abbrev pub with_copies : List Copy → Jumps → Jumps
 with_copies [] by = by
 with_copies (c ∷ cs) by = with_copies cs (with_jump c.key c.after by)

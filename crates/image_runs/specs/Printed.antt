@@ -18,6 +18,7 @@ pub record Part : Type 0 where
   pub rows : List ExitRow
   pub patches : List Patch
 
+-- the base code with its entries and rows, and the parts in the order of the attachments
 pub record Printed : Type 0 where
   pub base : List ℕ
   pub entries : List (ℕ × ℕ)  -- a loop's trace, and the offset of its first piece
@@ -28,6 +29,7 @@ pub record Printed : Type 0 where
 abbrev pub patched : ℕ → ℤ → List ℕ → List ℕ
 patched at d code = take at code ++ (imm32 d ++ drop (at + 4) code)
 
+-- in order
 abbrev pub all_patched : List Patch → List ℕ → List ℕ
 all_patched [] code = code
 all_patched (p ∷ ps) code = all_patched ps (patched p.at p.after code)
@@ -36,6 +38,7 @@ all_patched (p ∷ ps) code = all_patched ps (patched p.at p.after code)
 abbrev pub with_part : List ℕ → Part → List ℕ
 with_part code x = all_patched x.patches (code ++ x.bytes)
 
+-- with several parts, in order
 abbrev pub with_parts : List ℕ → List Part → List ℕ
 with_parts code [] = code
 with_parts code (x ∷ xs) = with_parts (with_part code x) xs
@@ -44,8 +47,10 @@ with_parts code (x ∷ xs) = with_parts (with_part code x) xs
 abbrev pub code_at : Printed → ℕ → List ℕ
 code_at im j = with_parts im.base (take j im.parts)
 
+-- the rows then
 abbrev pub rows_at : Printed → ℕ → List ExitRow
 rows_at im j = im.rows ++ flat_map (λ (x : Part). x.rows) (take j im.parts)
 
+-- and the bridges
 abbrev pub bridges_at : Printed → ℕ → List ℕ
 bridges_at im j = map (λ (x : Part). x.bridge) (take j im.parts)

@@ -9,6 +9,7 @@ use Rattle.asm_select.specs.Laid.{SlotsStand}
 abbrev pub OneInstruction : Type 0
 OneInstruction = (i j : Instr) (a b x y : List ℕ) → InstrForm i a → InstrForm j b → a ++ x ≡ b ++ y → (i ≡ j) × (a ≡ b)
 
+-- what instructions, the machine and slots do
 pub record Relies : Type 0 where
   pub instruction : OneInstruction
   pub least : (i : Instr) → 1 ≤ length (spelling i)

@@ -13,10 +13,12 @@ use Rattle.opt_meaning.specs.Pieces.{PiecesNow}
 abbrev pub PieceProgram : Type 0
 PieceProgram = Program PieceId OptOp Opt
 
+-- what the pieces share now
 abbrev pub world_now : PieceProgram → PiecesNow → World
 world_now a (In q rest s) = a.world s
 world_now a (Over q l) = world_left l
 
+-- and between legs
 abbrev pub world_leg : Leg PieceId → World
 world_leg (At q vs w) = w
 world_leg (Ended q l) = world_left l
@@ -39,10 +41,12 @@ pub record Grows (k : ℕ) (here : PieceId → Type 0) (a b : PieceProgram) : Ty
   pub targets : (q : PieceId) → here q → here (a.target q)
   pub bridges : (q r : PieceId) (n i : ℕ) → here q → a.sees q n i ≡ Some r → here r
 
+-- the piece in which a run is, is here
 abbrev pub IsHere : (PieceId → Type 0) → PiecesNow → Type 0
 IsHere here (In q rest s) = here q
 IsHere here (Over q l) = Unit {0}
 
+-- so is that of a leg
 abbrev pub IsLegHere : (PieceId → Type 0) → Leg PieceId → Type 0
 IsLegHere here (At q vs w) = here q
 IsLegHere here (Ended q l) = Unit {0}

@@ -29,6 +29,7 @@ pub data Exit : Type 0 where
   Finishing : Exit
   Inside : Exit
 
+-- of an operation
 abbrev pub exit_of : OptOp → Exit
 exit_of (opt.Plain operation result args d) = Inside
 exit_of (opt.Guard operation args n snap) = Guarded n
@@ -70,16 +71,20 @@ pub record Placed : Type 0 where
   pub moves : List Slot
   pub codes : List (List Slot)
 
+-- the slots of all operations
 abbrev pub joined : List (List Slot) → List Slot
 joined [] = []
 joined (x ∷ xs) = x ++ joined xs
 
+-- the slots of the piece
 abbrev pub code_of : Placed → List Slot
 code_of pl = pl.moves ++ joined pl.codes
 
+-- where its first operation stands
 abbrev pub start_of : Placed → ℕ
 start_of pl = pl.at + sizes_of pl.moves
 
+-- an operation of this kind is left so
 abbrev pub LeaveIs : Exit → Leave → Type 0
 LeaveIs (Guarded n) (Fails m vs w) = m ≡ n
 LeaveIs Jumping (Jumping_off vs w) = Unit {0}

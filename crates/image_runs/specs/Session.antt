@@ -54,6 +54,7 @@ pub record Activation : Type 0 where
   pub cuts : Cuts
   pub end : Option End
 
+-- it has ended wrong, by this word
 abbrev pub is_wrong_at : Activation → ℕ → Activation
 is_wrong_at a at = record a { end = Some (Lost at) }
 
@@ -89,6 +90,7 @@ pub record Session : Type 0 where
   pub parts : ℕ
   pub activations : List Activation
 
+-- a bridge is attached now
 abbrev pub with_cut : ℕ → Activation → Activation
 with_cut bridge a = record a { cuts = a.cuts ++ (bridge, a.failures) ∷ [] }
 
@@ -96,9 +98,11 @@ with_cut bridge a = record a { cuts = a.cuts ++ (bridge, a.failures) ∷ [] }
 abbrev pub cuts_at : Printed → ℕ → Cuts
 cuts_at im j = map (λ (b : ℕ). (b, 0)) (bridges_at im j)
 
+-- before any call
 abbrev pub no_calls : List Answer → Calls
 no_calls given = record { log = []; answers = given }
 
+-- an activation as it starts
 abbrev pub first : Printed → ℕ → ℕ → List Value → List Answer → State → Activation
 first im j trace inputs given s = record {
   trace = trace;
@@ -111,6 +115,7 @@ first im j trace inputs given s = record {
   end = None;
 }
 
+-- a start, an event of one activation, or an attachment, which each activation keeps
 pub data SessionStep (h : Host) (im : Printed) (s : Session) : Session → Type 0 where
   Start : (trace entry : ℕ) (inputs : List Value) (given : List Answer) (m : State) → Contains im.entries (trace, entry) → h.starts trace entry inputs m
       → SessionStep h im s (record s { activations = s.activations ++ first im s.parts trace inputs given m ∷ [] })

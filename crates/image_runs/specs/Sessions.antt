@@ -44,6 +44,7 @@ pub record ImageStands (m : Model) (p : ℕ → List Piece) (g : ℕ → Image) 
 abbrev pub OneStands : Model → (ℕ → List Piece) → (ℕ → Image) → Printed → ℕ → Activation → Type 0
 OneStands m p g im j act = IsHere (g j) (preamble act.trace) × IsActive (widened m (p j)) (g j) (bridges_at im j) (begun_of m.set.table act) act
 
+-- all activations do so
 pub record SessionStands (m : Model) (p : ℕ → List Piece) (g : ℕ → Image) (im : Printed) (s : Session) : Type 0 where
   pub within : s.parts ≤ length im.parts
   pub each : All (OneStands m p g im s.parts) s.activations

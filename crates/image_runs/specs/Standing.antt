@@ -9,8 +9,8 @@ use Rattle.x64_machine.specs.State.{State, reg, stops}
 use Rattle.x64_machine.specs.Step.{MachineStep}
 use Rattle.asm_select.specs.Slots.{Slot, Put, Jumps, Lists, size_of, sizes_of}
 use Rattle.x64_machine.specs.Running.{Along}
-use Rattle.trace_meaning.specs.Legs.{Leave, Off, In, Over, Now}
-use Rattle.trace_ops.specs.declared.piece.PieceId.{PieceId}
+use Rattle.trace_meaning.specs.Legs.{Leave, Off, In, Over}
+use Rattle.opt_meaning.specs.Pieces.{PiecesNow}
 use Rattle.trace_ops.specs.declared.piece.OptOp.{OptOp}
 use Rattle.opt_meaning.specs.Step.{Opt, opt_step}
 use Rattle.image_runs.specs.Session.{Calls}
@@ -19,9 +19,6 @@ use Rattle.asm_select.specs.Ended.{IsTaken}
 use Rattle.image_runs.specs.Selection.{Model, Placed, At, AtCall, LeaveIs, EndsAs, joined, start_of, ended, exit_of}
 use Rattle.image_runs.specs.Image.{Image, HasSlots, JumpAt}
 use Rattle.opt_meaning.specs.Pieces.{ops_at}
-
-abbrev pub PiecesNow : Type 0
-PiecesNow = Now PieceId OptOp Opt
 
 -- the machine goes along the path, whatever the displacements are
 abbrev pub Way : List Slot → List State → State → State → Type 0
@@ -119,6 +116,7 @@ pub record Returning (m : Model) (g : Image) (x : PiecesNow) (c : Calls) (s : St
   pub gone : m.gone pl.id (length done) leave c t
   pub few : length path + 1 ≤ todo
 
+-- one of the four
 pub data Stands (m : Model) (g : Image) (x : PiecesNow) (c : Calls) (s : State) (path : List State) (todo : ℕ) : Type 0 where
   Walks : Walking m g x c s path todo → Stands m g x c s path todo
   Leaves : Leaving m g x c s path todo → Stands m g x c s path todo

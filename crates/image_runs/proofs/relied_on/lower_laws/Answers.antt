@@ -1,4 +1,3 @@
-use Rattle.image_runs.specs.Relying.{Relies}
 use Rattle.image_runs.proofs.relied_on.lower_laws.Goals as goal
 
 pub returns : goal.returns

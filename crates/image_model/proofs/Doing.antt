@@ -22,13 +22,13 @@ use Rattle.asm_select.specs.Slots.{Slot, Put, size_of, sizes_of}
 use Rattle.asm_select.specs.Chosen.{Setting, told_by, code_of}
 use Rattle.asm_select.specs.Reached.{Reach, Holds, AreApart}
 use Rattle.asm_select.specs.Ended.{IsHere, LeavesWith, Counts, ComesTo, FollowsBy, CodeFollows, loads_of, stores_of}
-use Rattle.asm_select.specs.Asked.{AreSafe, AreChosen, CallsBy, CallsFollow, call_size, entry_by, in_host, returned}
+use Rattle.asm_select.specs.Asked.{AreSafe, AreChosen, CallsBy, CallsFollow, HostLeft, given_by, call_size, entry_by, in_host, returned}
 use Rattle.asm_select.specs.Asked as asked
-use Rattle.image_runs.specs.Session.{Calls, Answered, Resumes, Stops, Host}
+use Rattle.image_runs.specs.Session.{Calls, Answered, Resumes, Stops, End, Shows, Full, Waiting, Misfitting, Lost, Host}
 use Rattle.image_runs.specs.Reached.{Comes}
-use Rattle.image_runs.specs.Selection.{Model, Placed, LeaveIs, ComesOff, CallsHost, AnswerDoes, Does, PieceDoes, exit_of, joined, start_of}
+use Rattle.image_runs.specs.Selection.{Model, Placed, LeaveIs, ComesOff, CallsHost, AnswerDoes, Does, EndsBy, PieceDoes, exit_of, joined, start_of}
 use Rattle.image_model.specs.Modelled.{SameCalls, HoldsAt, told_at, model_of}
-use Rattle.image_model.specs.Laws.{codes_from, IsSelected, ServedSo, HostServes}
+use Rattle.image_model.specs.Laws.{codes_from, IsSelected, EndsSo, ServedSo, HostServes}
 use Rattle.image_model.proofs.CallsKept.{Alike, TurnKeeps, step_keeps_calls, closes_off}
 use Rattle.image_model.proofs.Splitting.{Split, split_at, codes_count}
 
@@ -82,9 +82,9 @@ leave_is st (opt.Finish value) (Wrong w) t h = absurd h
 same_calls : (w u : World) (c : Calls) → Alike w u → SameCalls w c → SameCalls u c
 same_calls w u c k h = record { log = h.log ∙ ap events (sym k.0); answers = h.answers ∙ sym k.1 }
 
-module _ (code_follows : CodeFollows) (calls_follow : CallsFollow) (host : Host) (set : TraceSet) (ps : List Piece) (settings : PieceId → Setting) (pl : Placed) (serves : HostServes host set ps settings) (z : IsSelected set ps settings pl) where
+module _ (code_follows : CodeFollows) (calls_follow : CallsFollow) (host : Host) (set : TraceSet) (whole ps : List Piece) (settings : PieceId → Setting) (pl : Placed) (serves : HostServes host set.table) (z : IsSelected set whole ps settings pl) where
   abbrev m : Model
-  m = model_of host set ps settings
+  m = model_of host set whole settings ps
 
   abbrev st : Setting
   st = settings pl.id
@@ -95,7 +95,7 @@ module _ (code_follows : CodeFollows) (calls_follow : CallsFollow) (host : Host)
   -- ---- one operation
 
   module _ (done : List OptOp) (op : OptOp) (rest : List OptOp) (before more : List (List Slot)) (xs : List Slot) (env : Opt) (c : Calls) (s : State)
-      (e : ops_at ps pl.id ≡ done ++ op ∷ rest) (codes : pl.codes ≡ before ++ xs ∷ more) (same : length done ≡ length before) (y : Split st pl.key tell.Nothing (done ++ op ∷ rest) done op rest xs more) where
+      (e : ops_at whole pl.id ≡ done ++ op ∷ rest) (codes : pl.codes ≡ before ++ xs ∷ more) (same : length done ≡ length before) (y : Split st pl.key tell.Nothing (done ++ op ∷ rest) done op rest xs more) where
     abbrev all : List OptOp
     all = done ++ op ∷ rest
 
@@ -111,20 +111,20 @@ module _ (code_follows : CodeFollows) (calls_follow : CallsFollow) (host : Host)
     abbrev Y : List Slot
     Y = joined more
 
-    now : HoldsAt st (ops_at ps pl.id) j env c s → Holds st (told all (length done)) (op ∷ rest) env s
+    now : HoldsAt st (ops_at whole pl.id) j env c s → Holds st (told all (length done)) (op ∷ rest) env s
     now h =
         let a = subst (λ (l : List OptOp). Holds st (told l j) (drop j l) env s) e h.0 in
         let b = subst (λ (n : ℕ). Holds st (told all n) (drop n all) env s) (sym same) a in
         subst (λ (l : List OptOp). Holds st (told all (length done)) l env s) y.here b
 
-    next : (after : Opt) (t : State) (d : Calls) → Holds st (told_by op rest) rest after t → SameCalls after.world d → HoldsAt st (ops_at ps pl.id) (j + 1) after d t
+    next : (after : Opt) (t : State) (d : Calls) → Holds st (told_by op rest) rest after t → SameCalls after.world d → HoldsAt st (ops_at whole pl.id) (j + 1) after d t
     next after t d k calls =
         let a = subst (λ (l : List OptOp). Holds st (told_by op rest) l after t) (sym y.after) k in
         let b = subst (λ (x : Told). Holds st x (drop (length done + 1) all) after t) (sym y.told_next) a in
         let g = subst (λ (n : ℕ). Holds st (told all (n + 1)) (drop (n + 1) all) after t) same b in
         (subst (λ (l : List OptOp). Holds st (told l (j + 1)) (drop (j + 1) l) after t) (sym e) g, calls)
 
-    named : slice_get (ops_at ps pl.id) j ≡ Some op
+    named : slice_get (ops_at whole pl.id) j ≡ Some op
     named = ap (λ (l : List OptOp). slice_get l j) e ∙ ap (slice_get all) (sym same) ∙ get_middle done op rest
 
     comes : (also : State → Type 0) (l : Leave) → ComesTo also st (pl.key + j) op X p s l → SameCalls (world_left l) c → ComesOff m pl j op X p s c l
@@ -173,19 +173,56 @@ module _ (code_follows : CodeFollows) (calls_follow : CallsFollow) (host : Host)
       };
     }
 
-    served : (also : State → Type 0) (f : asked.Stops also st op env X p s) (turn : Turn Opt) → opt_step set.table op env ≡ turn → SameCalls env.world c → (o : Answered) → host.answers (entry_by op) c (in_host op f.q f.u) o → ServedSo m st op env f.q f.u turn o
-    served also f turn is h o a = subst (λ (t : Turn Opt). ServedSo m st op env f.q f.u t o) is (serves pl.id op env f.q f.u c o f.there h a)
+    served : (also : State → Type 0) (f : asked.Stops also st op env X p s) (turn : Turn Opt) → opt_step set.table op env ≡ turn → SameCalls env.world c → (o : Answered) → host.answers (entry_by op) c (in_host op f.q f.u) o → ServedSo set.table op env f.q f.u turn o
+    served also f turn is h o a = subst (λ (t : Turn Opt). ServedSo set.table op env f.q f.u t o) is (serves st op env f.q f.u c o z.table f.there h a)
 
-    off : (l : Leave) (q : ℕ) (u : State) (tail : List Slot) (o : Answered) → ServedSo m st op env q u (Off l) o → AnswerDoes m pl j (q + call_size) tail Y env.world (Off l) (in_host op q u) o
+    ends_so : (turn : Turn Opt) (d : Calls) (u : State) (end : End) → EndsSo set.table env.world turn d u end → EndsBy m env.world turn d u end
+    ends_so (On after) d u (Shows state store) h = h
+    ends_so (On after) d u (Full asked left) h = h
+    ends_so (On after) d u Waiting h = h
+    ends_so (On after) d u (Misfitting n) h = h
+    ends_so (On after) d u (Lost at) h = h
+    ends_so (Off (Fails k vs w)) d u (Shows state store) h = h
+    ends_so (Off (Fails k vs w)) d u (Full asked left) h = h
+    ends_so (Off (Fails k vs w)) d u Waiting h = h
+    ends_so (Off (Fails k vs w)) d u (Misfitting n) h = h
+    ends_so (Off (Fails k vs w)) d u (Lost at) h = h
+    ends_so (Off (Jumps vs w)) d u (Shows state store) h = h
+    ends_so (Off (Jumps vs w)) d u (Full asked left) h = h
+    ends_so (Off (Jumps vs w)) d u Waiting h = h
+    ends_so (Off (Jumps vs w)) d u (Misfitting n) h = h
+    ends_so (Off (Jumps vs w)) d u (Lost at) h = h
+    ends_so (Off (Finishes vs w)) d u (Shows state store) h = h
+    ends_so (Off (Finishes vs w)) d u (Full asked left) h = h
+    ends_so (Off (Finishes vs w)) d u Waiting h = h
+    ends_so (Off (Finishes vs w)) d u (Misfitting n) h = h
+    ends_so (Off (Finishes vs w)) d u (Lost at) h = h
+    ends_so (Off (Waits w)) d u (Shows state store) h = h
+    ends_so (Off (Waits w)) d u (Full asked left) h = h
+    ends_so (Off (Waits w)) d u Waiting h = h
+    ends_so (Off (Waits w)) d u (Misfitting n) h = h
+    ends_so (Off (Waits w)) d u (Lost at) h = h
+    ends_so (Off (Misfits w)) d u (Shows state store) h = h
+    ends_so (Off (Misfits w)) d u (Full asked left) h = h
+    ends_so (Off (Misfits w)) d u Waiting h = h
+    ends_so (Off (Misfits w)) d u (Misfitting n) h = h
+    ends_so (Off (Misfits w)) d u (Lost at) h = h
+    ends_so (Off (Wrong w)) d u (Shows state store) h = h
+    ends_so (Off (Wrong w)) d u (Full asked left) h = h
+    ends_so (Off (Wrong w)) d u Waiting h = h
+    ends_so (Off (Wrong w)) d u (Misfitting n) h = h
+    ends_so (Off (Wrong w)) d u (Lost at) h = h
+
+    off : (l : Leave) (q : ℕ) (u : State) (tail : List Slot) (o : Answered) → ServedSo set.table op env q u (Off l) o → AnswerDoes m pl j (q + call_size) tail Y env.world (Off l) (in_host op q u) o
     off l q u tail (Resumes d v) h = absurd h
-    off l q u tail (Stops d end) h = h
+    off l q u tail (Stops d end) h = ends_so (Off l) d (in_host op q u) end h
 
-    on : (also : State → Type 0) (after : Opt) (f : asked.Stops also st op env X p s) → asked.Resumes also st op rest env after f.rest Y f.q f.u → (o : Answered) → ServedSo m st op env f.q f.u (On after) o → AnswerDoes m pl j (f.q + call_size) f.rest Y env.world (On after) (in_host op f.q f.u) o
+    on : (also : State → Type 0) (after : Opt) (f : asked.Stops also st op env X p s) → asked.Resumes also st op rest env after f.rest Y f.q f.u → (o : Answered) → ServedSo set.table op env f.q f.u (On after) o → AnswerDoes m pl j (f.q + call_size) f.rest Y env.world (On after) (in_host op f.q f.u) o
     on also after f g (Resumes d v) (n, lost, arena, word, left, is, calls) =
-        let r = g n lost arena word (few f.q f.path.front f.rest f.path.split f.path.place) left in
+        let r = g n lost arena word (few f.q f.path.front f.rest f.path.split f.path.place) (subst (λ (t : Table). HostLeft t (given_by op after) env.world.objects after.world.objects n arena) (sym z.table) left) in
         let back = comes_of (f.q + call_size) f.rest (returned op f.q f.u n lost arena) Y (λ t k. next after t d k.0 calls) r in
-        (after, refl, subst (λ (x : State). Comes ⊥ (f.q + call_size) f.rest x Y (λ (t : State). HoldsAt st (ops_at ps pl.id) (j + 1) after d t)) (sym is) back, ap (λ (x : State). x.at) is)
-    on also after f g (Stops d end) h = h
+        (after, refl, subst (λ (x : State). Comes ⊥ (f.q + call_size) f.rest x Y (λ (t : State). HoldsAt st (ops_at whole pl.id) (j + 1) after d t)) (sym is) back, ap (λ (x : State). x.at) is)
+    on also after f g (Stops d end) h = ends_so (On after) d (in_host op f.q f.u) end h
 
     asks : (also : State → Type 0) (turn : Turn Opt) → opt_step set.table op env ≡ turn → CallsBy also st op rest X Y p s env turn → SameCalls env.world c → Does m pl j op X Y p s c env.world turn
     asks also (On after) is f h = inr (calls also (On after) f.0 (λ o a. on also after f.0 f.1 o (served also f.0 (On after) is h o a)))
@@ -198,7 +235,7 @@ module _ (code_follows : CodeFollows) (calls_follow : CallsFollow) (host : Host)
 
     -- ---- either
 
-    does : HoldsAt st (ops_at ps pl.id) j env c s → s.at ≡ 0x40000000 + p → Does m pl j op X Y p s c env.world (opt_step set.table op env)
+    does : HoldsAt st (ops_at whole pl.id) j env c s → s.at ≡ 0x40000000 + p → Does m pl j op X Y p s c env.world (opt_step set.table op env)
     does h at = by_choice y.chosen
       where
         by_choice : IsHere st (told all (length done)) op ⊎ asked.IsAsked st (pl.key + length done) op → Does m pl j op X Y p s c env.world (opt_step set.table op env)
@@ -218,14 +255,14 @@ module _ (code_follows : CodeFollows) (calls_follow : CallsFollow) (host : Host)
 
   pub piece_does : PieceDoes m pl
   piece_does = record {
-    some = z.some;
-    counts = sym (ap length z.codes ∙ codes_count st pl.key tell.Nothing (ops_at ps pl.id));
-    each = λ done rest op before more xs env c s e codes same h at. (
+    some = (z.some.0, z.some.1, z.same ∙ z.some.2);
+    counts = ap length z.same ∙ sym (ap length z.codes ∙ codes_count st pl.key tell.Nothing (ops_at whole pl.id));
+    each = λ done rest op before more xs env c s e0 codes same h at. (let e = sym z.same ∙ e0 in
         let apart = subst (AreApart st.at) e z.apart in
         let safe = subst (AreSafe st.at) e z.safe in
         let chosen = subst (AreChosen st pl.key tell.Nothing) e z.chosen in
         let listed = ap (codes_from st pl.key tell.Nothing) (sym e) ∙ sym z.codes ∙ codes in
         let y = split_at st pl.key tell.Nothing done op rest before more xs listed same apart safe chosen in
         does done op rest before more xs env c s e codes same y h at);
-    ends = λ done op env after e is. closes_off set.table op env after (z.closed done op e) is;
+    ends = λ done op env after e is. closes_off set.table op env after (z.closed done op (sym z.same ∙ e)) is;
   }

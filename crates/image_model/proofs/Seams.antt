@@ -101,10 +101,10 @@ left_moved st op l n t h = record { fit = fit_moved n t h.fit; arena = h.arena; 
 
 -- ---- a stub
 
-pub stubs_exit : StubExits → (host : Host) (set : TraceSet) (ps : List Piece) (settings : PieceId → Setting) (q : PieceId) (j : ℕ) (l : Leave) (c : Calls) (at common exit n : ℕ) (to : ℤ) (t : State)
-    → LeftAt (settings q) (ops_at ps q) j l c t → exit < 2 ^ 32 → n ≡ 0x40000000 + at → target (0x40000000 + (at + sizes_of (puts (stub_code to exit)))) to ≡ 0x40000000 + common
-    → Exits (model_of host set ps settings) q j l c at common exit to (moved n t)
-stubs_exit law host set ps settings q j l c at common exit n to t (op, named, left, calls) small here goes =
+pub stubs_exit : StubExits → (host : Host) (set : TraceSet) (whole ps : List Piece) (settings : PieceId → Setting) (q : PieceId) (j : ℕ) (l : Leave) (c : Calls) (at common exit n : ℕ) (to : ℤ) (t : State)
+    → LeftAt (settings q) (ops_at whole q) j l c t → exit < 2 ^ 32 → n ≡ 0x40000000 + at → target (0x40000000 + (at + sizes_of (puts (stub_code to exit)))) to ≡ 0x40000000 + common
+    → Exits (model_of host set whole settings ps) q j l c at common exit to (moved n t)
+stubs_exit law host set whole ps settings q j l c at common exit n to t (op, named, left, calls) small here goes =
     let x = law at common exit to (moved n t) small (fit_moved n t left.fit) here goes in
     record {
       path = x.path;
@@ -126,16 +126,16 @@ jump_places st (opt.Exit m snap) vs w t h = absurd h
 jump_places st (opt.Jump to args) vs w t h = h
 jump_places st (opt.Finish value) vs w t h = absurd h
 
-pub jumps_hold : LabelHolds → LabelStands → (ps : List Piece) (settings : PieceId → Setting) (q r : PieceId) (j : ℕ) (vs : List Value) (w : World) (c : Calls) (n : ℕ) (t : State)
+pub jumps_hold : LabelHolds → LabelStands → (whole ps : List Piece) (settings : PieceId → Setting) (q r : PieceId) (j : ℕ) (vs : List Value) (w : World) (c : Calls) (n : ℕ) (t : State)
     → (settings r).table ≡ (settings q).table → AllZip (λ (p : Place) (b : BoxId). (settings r).at b.number ≡ p) (settings q).to (label_at ps r)
-    → LeftAt (settings q) (ops_at ps q) j (Jumps vs w) c t → HoldsAt (settings r) (ops_at ps r) 0 (begin_at ps r vs w) c (moved n t)
-jumps_hold holds stands ps settings q r j vs w c n t table label (op, named, left, calls) =
+    → LeftAt (settings q) (ops_at whole q) j (Jumps vs w) c t → HoldsAt (settings r) (ops_at whole r) 0 (begin_at ps r vs w) c (moved n t)
+jumps_hold holds stands whole ps settings q r j vs w c n t table label (op, named, left, calls) =
     let st = settings r in
     let there = places_moved (address_of w.objects) n t (settings q).to vs (jump_places (settings q) op vs w t left.with) in
     let boxes = stands st (settings q).to (label_at ps r) (address_of w.objects) vs (moved n t) label there in
     let arena = subst (λ (x : Table). Stands x w.objects t.arena) (sym table) left.arena in
     let prebuilts = subst (λ (x : Table). PrebuiltsStand x w.objects) (sym table) left.prebuilts in
-    (holds st (label_at ps r) (ops_at ps r) vs w (moved n t) (fit_moved n t left.fit) arena prebuilts left.parts boxes, calls)
+    (holds st (label_at ps r) (ops_at whole r) vs w (moved n t) (fit_moved n t left.fit) arena prebuilts left.parts boxes, calls)
 
 -- ---- a bridge
 
@@ -157,15 +157,15 @@ abbrev op_or : OptOp → Option OptOp → OptOp
 op_or d None = d
 op_or d (Some op) = op
 
-pub guards_hold : LabelHolds → (ps : List Piece) (settings : PieceId → Setting) (q r : PieceId) (j k : ℕ) (op : OptOp) (vs : List Value) (w : World) (c : Calls) (t u : State)
-    → (settings r).table ≡ (settings q).table → slice_get (ops_at ps q) j ≡ Some op → LeftAt (settings q) (ops_at ps q) j (Fails k vs w) c t
+pub guards_hold : LabelHolds → (whole ps : List Piece) (settings : PieceId → Setting) (q r : PieceId) (j k : ℕ) (op : OptOp) (vs : List Value) (w : World) (c : Calls) (t u : State)
+    → (settings r).table ≡ (settings q).table → slice_get (ops_at whole q) j ≡ Some op → LeftAt (settings q) (ops_at whole q) j (Fails k vs w) c t
     → IsFit u → SameArena t u → AllZip (λ (a b : BoxId). value u ((settings r).at b.number) ≡ value t ((settings q).at a.number)) (shown_by op) (label_at ps r)
-    → HoldsAt (settings r) (ops_at ps r) 0 (begin_at ps r vs (failed w)) c u
-guards_hold holds ps settings q r j k op vs w c t u table there (op2, named, left, calls) fit same moves =
+    → HoldsAt (settings r) (ops_at whole r) 0 (begin_at ps r vs (failed w)) c u
+guards_hold holds whole ps settings q r j k op vs w c t u table there (op2, named, left, calls) fit same moves =
     let st = settings r in
     let one : op2 ≡ op = ap (op_or op) (sym named ∙ there) in
     let with = subst (λ (x : OptOp). LeavesWith (settings q) x (Fails k vs w) t) one left.with in
     let boxes = brought st.at (settings q).at (address_of w.objects) t u (shown_by op) (label_at ps r) vs moves (shown_boxes (settings q) op k vs w t with) in
     let arena = subst (λ (x : Table). Stands x w.objects u.arena) (sym table) (subst (λ (a : Arena). Stands (settings q).table w.objects a) (sym same.arena) left.arena) in
     let prebuilts = subst (λ (x : Table). PrebuiltsStand x w.objects) (sym table) left.prebuilts in
-    (holds st (label_at ps r) (ops_at ps r) vs (failed w) u fit arena prebuilts left.parts boxes, record { log = calls.log; answers = calls.answers })
+    (holds st (label_at ps r) (ops_at whole r) vs (failed w) u fit arena prebuilts left.parts boxes, record { log = calls.log; answers = calls.answers })

@@ -70,16 +70,17 @@ ended_calls (Waits w) c h = h
 ended_calls (Misfits w) c h = h
 ended_calls (Wrong w) c h = h
 
--- The model of pieces of a set whose operations are chosen with these settings.
-abbrev pub model_of : Host → TraceSet → List Piece → (PieceId → Setting) → Model
-model_of host set ps settings = record {
+-- The model of pieces of a set whose operations are chosen with these settings. What stands where is told by the whole of the
+-- pieces, those of bridges that aren't attached yet among them, so that an attachment changes nothing in it.
+abbrev pub model_of : Host → TraceSet → (whole : List Piece) → (PieceId → Setting) → (ps : List Piece) → Model
+model_of host set whole settings ps = record {
   set = set;
   pieces = ps;
   host = host;
   followed = ⊥;
-  holds = λ q j env c s. HoldsAt (settings q) (ops_at ps q) j env c s;
-  left = λ q j l c s. LeftAt (settings q) (ops_at ps q) j l c s;
-  gone = λ q j l c s. GoneAt (settings q) (ops_at ps q) j l c s;
+  holds = λ q j env c s. HoldsAt (settings q) (ops_at whole q) j env c s;
+  left = λ q j l c s. LeftAt (settings q) (ops_at whole q) j l c s;
+  gone = λ q j l c s. GoneAt (settings q) (ops_at whole q) j l c s;
   fills = λ w turn s asked left. Fills set.table w turn s asked left;
   called = SameCalls;
   tells = λ q j env c s h. h.1;

@@ -1,0 +1,4 @@
+mod CallsKept
+mod Splitting
+mod Doing
+mod Seams

@@ -1,0 +1,2 @@
+pub mod Modelled
+pub mod Laws

@@ -1,0 +1,17 @@
+mod Bytes
+mod Ways
+mod Settling
+mod Stepping
+mod Running
+mod Following
+mod Bounds
+mod Calls
+mod KeptPieces
+mod Attaching
+mod Attachment
+mod Patching
+mod Undoing
+mod Steadying
+mod AnyEvents
+mod Building
+mod Listing

@@ -1,0 +1,7 @@
+use Rattle.std.specs.Prelude.{[]}
+use Rattle.image_runs.proofs.Following.{event_keeps}
+use Rattle.image_runs.proofs.Steadying.{pieces_steady}
+use Rattle.image_runs.proofs.events.event_keeps.Goals as goal
+
+pub returns : goal.returns
+returns g c = λ x i bs rows b old new quiet image. event_keeps c.lower_laws.ensures (g.T.Selection.model x) quiet (pieces_steady (g.T.Selection.model x).set (g.T.Selection.model x).pieces []) i bs rows image b old new

@@ -35,6 +35,14 @@ use Rattle.opt_pass.proofs.Guards.{guard_turns, skip_turns, exit_turns}
 use Rattle.opt_pass.proofs.Ends.{jump_turns, body_turns, finish_turns}
 use Rattle.opt_pass.proofs.Prints.{stays_performed, stays_tested, prints_nothing, prints_plain, prints_guard, prints_exit, prints_jump, prints_body, prints_finish}
 use Rattle.opt_pass.specs.Laws.{Laws}
+use Rattle.trace_ops.specs.Classes.{guarding}
+use Rattle.trace_ops.specs.declared.trace.Arg.TheVariants as arg
+use Rattle.trace_ops.specs.declared.piece.Val.TheVariants.{Known}
+use Rattle.opt_pass.specs.State.{next_box}
+use Rattle.opt_pass.specs.Rising.{counted}
+use Rattle.opt_pass.specs.Forming.{KeepsNames}
+use Rattle.opt_pass.proofs.Shaping.{keeps_form_plain, keeps_form_kept, keeps_form_skipped, keeps_form_exited, keeps_form_jump, keeps_form_body, keeps_form_finish}
+use Rattle.opt_pass.proofs.Naming.{names_tested, names_ended, names_given, names_none}
 
 pub ok_by : {T E X : Type 0} (r : Result T E) (x y : X) (Q : Type 0) → (x ≡ y → Q) → OnOk r (x ≡ y) → OnOk r Q
 ok_by (Ok w) x y Q h e = h e
@@ -96,10 +104,16 @@ keeps_plain_now op o going is =
       boxes = f.2;
       counted = let g : (with_plain o op.code op.result (args_of o op.args) op.descr).guard ≡ o.guard = f.3 in omega (arith, g);
       checked = λ s. f.4 ∙ sym (sets_is (part_of op.code)) ∙ s;
-      printed = prints_plain op o (with_plain o op.code op.result (args_of o op.args) op.descr) (given_by o op.result) going f.0 f.1 (f.7 ∙ going, f.8) (stays_performed op.code is);
+      printed = prints_plain op o (with_plain o op.code op.result (args_of o op.args) op.descr) (given_by o op.result) going f.0 f.1 (f.7 ∙ going, f.8) is f.3;
       to = f.5;
       target = f.6;
+      forms = keeps_form_plain op o is;
+      names = λ laws. plain_names laws op.result refl;
     }
+  where
+    plain_names : (laws : Laws) (to : Option BoxId) → op.result ≡ to → KeepsNames op o (with_plain o op.code op.result (args_of o op.args) op.descr)
+    plain_names laws (Some b) e = names_given laws op o (with_plain o op.code op.result (args_of o op.args) op.descr) b (Known (arg.Of (next_box o b))) e (ap (λ z. (with_plain o op.code z (args_of o op.args) op.descr).names) e)
+    plain_names laws None e = names_none op o (with_plain o op.code op.result (args_of o op.args) op.descr) e (ap (λ z. (with_plain o op.code z (args_of o op.args) op.descr).names) e)
 
 pub keeps_plain : (op : Op) (o new : Pass) (args : List Arg) → o.ended ≡ false → IsPerformed op.code → args ≡ args_of o op.args → new ≡ with_plain o op.code op.result args op.descr → KeepsAll op o new
 keeps_plain op o new args going is e n = subst (KeepsAll op o) (sym (n ∙ ap (λ z. with_plain o op.code op.result z op.descr) e)) (keeps_plain_now op o going is)
@@ -130,16 +144,18 @@ keeps_kept_now op o going is = record {
   boxes = omega arith;
   counted = omega arith;
   checked = λ s. no_set op is s;
-  printed = prints_guard op o (kept_at o op.code (args_of o op.args) op.snapshot) going refl refl (going, refl) (stays_tested op.code is);
+  printed = prints_guard op o (kept_at o op.code (args_of o op.args) op.snapshot) going refl refl (going, refl) is refl;
   to = refl;
   target = refl;
+  forms = keeps_form_kept op o is;
+  names = λ laws. names_tested op o (kept_at o op.code (args_of o op.args) op.snapshot) is refl;
 }
 
 pub keeps_kept : (op : Op) (o new : Pass) (args : List Arg) (frames : List Frame) → o.ended ≡ false → IsTested op.code → args ≡ args_of o op.args → frames ≡ op.snapshot → new ≡ kept_at o op.code args frames → KeepsAll op o new
 keeps_kept op o new args frames going is e f n = subst (KeepsAll op o) (sym (n ∙ ap (kept_at o op.code args) f ∙ ap (λ z. kept_at o op.code z op.snapshot) e)) (keeps_kept_now op o going is)
 
 -- a guard that passes wherever its arguments have values
-pub keeps_skipped : (op : Op) (o new : Pass) → o.ended ≡ false → IsTested op.code → ((laws : Laws) (t : Table) (r : Rec) (p : Opt) → Stands t o r p → (vs : List Value) → AllByRecursion (IsThere t) op.args → values_of r op.args ≡ Some vs → passes op.code op.args vs r.world ≡ Some true) → new ≡ skipped o → KeepsAll op o new
+pub keeps_skipped : (op : Op) (o new : Pass) → o.ended ≡ false → part_of op.code ≡ part.Guard → ((laws : Laws) (t : Table) (r : Rec) (p : Opt) → Stands t o r p → (vs : List Value) → AllByRecursion (IsThere t) op.args → values_of r op.args ≡ Some vs → passes op.code op.args vs r.world ≡ Some true) → new ≡ skipped o → KeepsAll op o new
 keeps_skipped op o new going is always n = subst (KeepsAll op o) (sym n) (record {
   each = λ laws t apart right checked. record {
     going = going;
@@ -147,18 +163,20 @@ keeps_skipped op o new going is always n = subst (KeepsAll op o) (sym n) (record
     late = [];
     ops = no_ops o.ops;
     guards = none_late o.guards;
-    follows = λ r p h kinds now. skip_turns laws t o r p h op right going (tested_part t op r is) (λ vs e. always laws t r p h vs right.args e);
+    follows = λ r p h kinds now. skip_turns laws t o r p h op right going (tested_part t op r (inl is)) (λ vs e. always laws t r p h vs right.args e);
   };
   boxes = omega arith;
   counted = omega arith;
-  checked = λ s. no_set op is s;
-  printed = prints_nothing op o (skipped o) going refl refl (going, refl) (stays_tested op.code is);
+  checked = λ s. no_set op (inl is) s;
+  printed = prints_nothing op o (skipped o) going refl refl (going, refl) (inr is) (ap (λ z. o.guard + counted z) (sym (ap guarding is)));
   to = refl;
   target = refl;
+  forms = keeps_form_skipped op o;
+  names = λ laws. names_tested op o (skipped o) (inl is) refl;
 })
 
 -- a guard that fails wherever its arguments have values
-pub keeps_exited : (op : Op) (o new : Pass) → o.ended ≡ false → IsTested op.code → ((laws : Laws) (t : Table) (r : Rec) (p : Opt) → Stands t o r p → (vs : List Value) → AllByRecursion (IsThere t) op.args → values_of r op.args ≡ Some vs → passes op.code op.args vs r.world ≡ Some false) → new ≡ exited_at o op.snapshot → KeepsAll op o new
+pub keeps_exited : (op : Op) (o new : Pass) → o.ended ≡ false → part_of op.code ≡ part.Guard → ((laws : Laws) (t : Table) (r : Rec) (p : Opt) → Stands t o r p → (vs : List Value) → AllByRecursion (IsThere t) op.args → values_of r op.args ≡ Some vs → passes op.code op.args vs r.world ≡ Some false) → new ≡ exited_at o op.snapshot → KeepsAll op o new
 keeps_exited op o new going is never n = subst (KeepsAll op o) (sym n) (record {
   each = λ laws t apart right checked. record {
     going = going;
@@ -166,18 +184,20 @@ keeps_exited op o new going is never n = subst (KeepsAll op o) (sym n) (record {
     late = (o.guard, entry_at (snap_of o.names o.forward op.snapshot)) ∷ [];
     ops = refl;
     guards = refl;
-    follows = λ r p h kinds now. exit_turns laws t o r p h op right going (tested_part t op r is) (λ vs e. never laws t r p h vs right.args e);
+    follows = λ r p h kinds now. exit_turns laws t o r p h op right going (tested_part t op r (inl is)) (λ vs e. never laws t r p h vs right.args e);
   };
   boxes = omega arith;
   counted = omega arith;
-  checked = λ s. no_set op is s;
-  printed = prints_exit op o going;
+  checked = λ s. no_set op (inl is) s;
+  printed = prints_exit op o going is;
   to = refl;
   target = refl;
+  forms = keeps_form_exited op o (inl is);
+  names = λ laws. names_tested op o (exited_at o op.snapshot) (inl is) refl;
 })
 
 pub keeps_dropped : (op : Op) (o new : Pass) → o.ended ≡ false → op.code ≡ code.GuardNoException → new ≡ skipped o → KeepsAll op o new
-keeps_dropped op o new going e n = keeps_skipped op o new going (inl (ap part_of e)) (λ laws t r p h vs there values. ap (λ z. passes z op.args vs r.world) e) n
+keeps_dropped op o new going e n = keeps_skipped op o new going (ap part_of e) (λ laws t r p h vs there values. ap (λ z. passes z op.args vs r.world) e) n
 
 -- Ends
 
@@ -194,13 +214,15 @@ keeps_pre op o going pre is = record {
   boxes = omega arith;
   counted = omega arith;
   checked = λ s. absurd (false_true (sym (ap sets_overflow is) ∙ s));
-  printed = prints_jump op o going pre;
+  printed = prints_jump op o going pre is;
   to = refl;
   target = refl;
+  forms = keeps_form_jump op o is;
+  names = λ laws. names_ended op o (with_jump o (args_of o op.args)) refl refl;
 }
 
-keeps_body : (op : Op) (o : Pass) → o.ended ≡ false → part_of op.code ≡ part.Jump → KeepsAll op o (with_body o (passed_in o op.args))
-keeps_body op o going is = record {
+keeps_body : (op : Op) (o : Pass) → o.ended ≡ false → o.to.half ≡ half.Body → part_of op.code ≡ part.Jump → KeepsAll op o (with_body o (passed_in o op.args))
+keeps_body op o going body is = record {
   each = λ laws t apart right checked. record {
     going = going;
     more = opt.Jump o.to (resume_args (passed_in o op.args)) ∷ [];
@@ -212,9 +234,11 @@ keeps_body op o going is = record {
   boxes = omega arith;
   counted = omega arith;
   checked = λ s. absurd (false_true (sym (ap sets_overflow is) ∙ s));
-  printed = prints_body op o going;
+  printed = prints_body op o going is;
   to = refl;
   target = refl;
+  forms = keeps_form_body op o body is;
+  names = λ laws. names_ended op o (with_body o (passed_in o op.args)) refl refl;
 }
 
 pub keeps_jump : (op : Op) (o new : Pass) → o.ended ≡ false → part_of op.code ≡ part.Jump → new ≡ jumped o op.args → KeepsAll op o new
@@ -222,7 +246,7 @@ keeps_jump op o new going is n = subst (KeepsAll op o) (sym n) (by o.to.half ref
   where
     by : (h : Half) → o.to.half ≡ h → KeepsAll op o (jumped_in h o op.args)
     by half.Pre e = keeps_pre op o going e is
-    by half.Body e = keeps_body op o going is
+    by half.Body e = keeps_body op o going e is
 
 pub keeps_finish : (op : Op) (o new : Pass) (args : List Arg) (value : Option Arg) → o.ended ≡ false → part_of op.code ≡ part.Finish → args ≡ args_of o op.args → value ≡ slice_get args 0 → new ≡ with_finish o value → KeepsAll op o new
 keeps_finish op o new args value going is e f n = subst (KeepsAll op o) (sym (n ∙ ap (with_finish o) (f ∙ ap (λ z. slice_get z 0) e))) (record {
@@ -237,7 +261,9 @@ keeps_finish op o new args value going is e f n = subst (KeepsAll op o) (sym (n 
   boxes = omega arith;
   counted = omega arith;
   checked = λ s. absurd (false_true (sym (ap sets_overflow is) ∙ s));
-  printed = prints_finish op o going;
+  printed = prints_finish op o going is;
   to = refl;
   target = refl;
+  forms = keeps_form_finish op o is;
+  names = λ laws. names_ended op o (with_finish o (slice_get (args_of o op.args) 0)) refl refl;
 })

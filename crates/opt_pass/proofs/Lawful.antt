@@ -19,7 +19,7 @@ use Rattle.trace_ops.specs.declared.piece.OptOp.{OptOp}
 use Rattle.trace_ops.specs.declared.piece.Entry.{Entry}
 use Rattle.trace_ops.specs.Facts.{part_of}
 use Rattle.trace_ops.specs.Classes.{is_overflowing}
-use Rattle.trace_ops.specs.Kinds.{kind_of_arg}
+use Rattle.trace_ops.specs.Kinds.{kind_of_arg, kind_of_val}
 use Rattle.trace_ops.specs.Lawful.{AreDistinct}
 use Rattle.trace_meaning.specs.Boxes.{bound_to}
 use Rattle.trace_meaning.specs.Legs.{drive}
@@ -60,7 +60,7 @@ use Rattle.trace_ops.specs.Pieces.{results_of}
 use Rattle.trace_ops.specs.Weights.{operation_weight, own_of, own_weight}
 use Rattle.opt_pass.specs.Starting.{numbered_from}
 use Rattle.trace_meaning.specs.Keeping.{LegsKeepKinds}
-use Rattle.opt_pass.specs.Keeping.{ArePaired, CanEnter, AreRight, IsMade, IsBare, weight_from, EndsLast, IsDone}
+use Rattle.opt_pass.specs.Keeping.{ArePaired, CanEnter, AreRight, IsMade, IsBare, weight_from, EndsLast, IsBuilt, IsDone}
 use Rattle.std.specs.Prelude.{nat_eq, cond}
 use Rattle.trace_ops.specs.declared.table.SizeRow.{SizeRow}
 use Rattle.trace_ops.specs.declared.table.FieldRow.{FieldRow}
@@ -71,6 +71,12 @@ use Rattle.trace_ops.specs.Lawful.{IsLawful, IsNumbered, IsShapeLawful}
 use Rattle.trace_meaning.specs.Objects.{listed, fields_of}
 use Rattle.heap_shape.specs.Visiting.{Has, IsOnce}
 use Rattle.opt_pass.specs.Laws.{Laws}
+use Rattle.trace_ops.specs.Pieces.{guards_of}
+use Rattle.trace_ops.specs.Sound.{guards_in, IsFormed}
+use Rattle.opt_pass.specs.Building.{AreRuled, guards_in as guards_in_ops}
+use Rattle.opt_pass.specs.Inputs.{HasInputs, AreLawful}
+use Rattle.opt_pass.proofs.Ruled.{all_ruled}
+use Rattle.opt_pass.proofs.Sounding.{is_formed}
 
 -- Lists
 
@@ -341,3 +347,27 @@ module _ (set : TraceSet) (id : PieceId) (to : PieceId) (e : Entry) (s : TraceSe
       let three : IsMade set.table (inputs_of (slice_get set.traces id.trace)) (inputs_of (slice_get set.traces to.trace)) e ops o = subst (λ z. IsMade set.table (inputs_of (slice_get set.traces id.trace)) z e ops o) (g ∙ ap (λ z. inputs_of (slice_get z.traces to.trace)) is) two in
       let four : IsMade set.table (inputs_of (slice_get set.traces id.trace)) (inputs_of (slice_get set.traces to.trace)) e (ops_at set id.trace) o = subst (λ z. IsMade set.table (inputs_of (slice_get set.traces id.trace)) (inputs_of (slice_get set.traces to.trace)) e z o) its_ops three in
       simulates_set laws set id to.trace e (record { id = id; label = label; ops = o.ops }) o four (right_set set id.trace to.trace e ranged formed aims lawful) (l ∙ ap (λ z. numbered_from z 0) it) refl kinds
+
+  built_now : (laws : Laws) → IsInRange set → IsWellFormed set → JumpsTo set id.trace to.trace → IsLawful set e → map kind_of_val e.values ≡ map (λ (b : BoxId). Some b.kind) (inputs_of (slice_get set.traces id.trace)) → inputs ≡ inputs_of (slice_get s.traces id.trace) → target ≡ inputs_of (slice_get s.traces to.trace)
+      → IsBuilt set to (inputs_of (slice_get set.traces to.trace)) (numbered_from e.label 0) (ops_at set id.trace) o
+  built_now laws ranged formed aims lawful values i g =
+      let i2 : inputs ≡ inputs_of (slice_get set.traces id.trace) = i ∙ ap (λ z. inputs_of (slice_get z.traces id.trace)) is in
+      let g2 : target ≡ inputs_of (slice_get set.traces to.trace) = g ∙ ap (λ z. inputs_of (slice_get z.traces to.trace)) is in
+      let right : AreRight s.table target e ops = subst (λ z. AreRight z.table target e ops) (sym is) (subst (λ z. AreRight set.table z e ops) (sym g2) (subst (AreRight set.table (inputs_of (slice_get set.traces to.trace)) e) (sym its_ops) (right_set set id.trace to.trace e ranged formed aims lawful))) in
+      let ruled : AreRuled set inputs e ops = subst (λ z. AreRuled set z e ops) (sym i2) (subst (AreRuled set (inputs_of (slice_get set.traces id.trace)) e) (sym its_ops) (all_ruled set ranged formed id.trace e lawful values)) in
+      let b : IsBuilt set to target (numbered_from e.label 0) ops o = m.built laws right set (sym (ap (λ (z : TraceSet). z.table) is)) ruled in
+      subst (λ z. IsBuilt set to z (numbered_from e.label 0) (ops_at set id.trace) o) g2 (subst (λ z. IsBuilt set to target (numbered_from e.label 0) z o) its_ops b)
+
+  pub made_lawful : (laws : Laws) → IsInRange set → IsWellFormed set → JumpsTo set id.trace to.trace → IsLawful set e → map kind_of_val e.values ≡ map (λ (b : BoxId). Some b.kind) (inputs_of (slice_get set.traces id.trace)) → inputs ≡ inputs_of (slice_get s.traces id.trace) → target ≡ inputs_of (slice_get s.traces to.trace)
+      → AreLawful set o.guards o.at_end
+  made_lawful laws ranged formed aims lawful values i g = let b = built_now laws ranged formed aims lawful values i g in (b.forms.bridges, b.forms.at_end)
+
+  pub made_formed : (laws : Laws) → IsInRange set → IsWellFormed set → JumpsTo set id.trace to.trace → IsLawful set e → map kind_of_val e.values ≡ map (λ (b : BoxId). Some b.kind) (inputs_of (slice_get set.traces id.trace)) → inputs ≡ inputs_of (slice_get s.traces id.trace) → target ≡ inputs_of (slice_get s.traces to.trace)
+      → id.trace < length set.traces → (labels : PieceId → Option (List BoxId)) → HasInputs labels to (inputs_of (slice_get set.traces to.trace)) → IsFormed set labels (record { id = id; label = label; ops = o.ops })
+  made_formed laws ranged formed aims lawful values i g lt labels there =
+      let b = built_now laws ranged formed aims lawful values i g in
+      let tr = get_some set.traces id.trace lt in
+      let last : EndsLast (ops_at set id.trace) = last_ends set formed id.trace lt in
+      let guards : AllByRecursion (λ g. g < guards_in tr.0) (flat_map guards_of o.ops) = subst (λ z. AllByRecursion (λ g. g < guards_in_ops z) (flat_map guards_of o.ops)) (ap ops_of tr.1) b.guards in
+      let whole : IsFormed set labels (record { id = id; label = numbered_from e.label 0; ops = o.ops }) = is_formed set labels id to (inputs_of (slice_get set.traces to.trace)) e.label o tr.0 tr.1 b.aim b.inputs b.forms (made_ends formed lt) guards b.once (b.pairs last) there in
+      subst (λ z. IsFormed set labels (record { id = id; label = z; ops = o.ops })) (sym (l ∙ ap (λ z. numbered_from z 0) it)) whole

@@ -23,3 +23,14 @@ pub mod Pures
 pub mod PureArms
 pub mod TruthGuards
 pub mod ValueGuards
+pub mod Becoming
+pub mod Snapping
+pub mod Formed
+pub mod Shaping
+pub mod Founding
+pub mod Rising
+pub mod Beginning
+pub mod Ruled
+pub mod Sounding
+pub mod Built
+pub mod Naming

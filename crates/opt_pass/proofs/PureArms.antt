@@ -31,12 +31,19 @@ use Rattle.trace_meaning.specs.Folding.{fold}
 use Rattle.opt_pass.specs.Keeping.{IsPerformed}
 use Rattle.opt_pass.specs.Words.{only_arg, same_of, folded_of, folded_arg, IsFew, IsMadeNoted}
 use Rattle.trace_ops.specs.Rules.{ends}
-use Rattle.opt_pass.proofs.Prints.{prints_nothing, prints_plain}
+use Rattle.opt_pass.proofs.Prints.{prints_nothing, prints_plain, no_more_counted, performed_guards}
 use Rattle.opt_pass.proofs.Extending.{first_parts}
 use Rattle.opt_pass.proofs.Args.{by_raw, named_stand, args_stand}
 use Rattle.opt_pass.proofs.Arms.{keeps_plain, none_late, no_ops}
 use Rattle.opt_pass.proofs.Pures.{pure_plain, value_turns, made_turns, found_is, fold_too, folded_is}
 use Rattle.opt_pass.specs.Laws.{Laws}
+use Rattle.trace_ops.specs.declared.trace.TraceSet.{TraceSet}
+use Rattle.trace_ops.specs.declared.piece.Val.TheVariants.{Known}
+use Rattle.trace_ops.specs.Classes.{is_guard}
+use Rattle.trace_ops.specs.Facts.{gives_of}
+use Rattle.opt_pass.specs.Forming.{IsArg, defined_in, Forms, IsRuled, IsScoped}
+use Rattle.opt_pass.proofs.Shaping.{keeps_form_value, keeps_form_made, value_noted, value_folded, value_same}
+use Rattle.opt_pass.proofs.Naming.{names_given}
 
 false_true : false ≡ true → ⊥
 false_true e = cc
@@ -53,8 +60,9 @@ no_set operation pure s = absurd (false_true (sym (ap sets_overflow (pure_plain 
 -- where an argument has the operation's value
 pub keeps_value : (op : Op) (o new : Pass) (of : BoxId) (value : Arg) → o.ended ≡ false → is_pure op.code ≡ true → op.result ≡ Some of
     → ((laws : Laws) (t : Table) (r : Rec) (p : Opt) (h : Stands t o r p) (vs : List Value) (y : Value) → AllByRecursion (IsThere t) op.args → values_of r op.args ≡ Some vs → fold op.code vs ≡ Some y → ArgIs (at_states r p h.mapped h.virtuals) value y)
+    → (Laws → (set : TraceSet) (label : List BoxId) → IsRuled set.table op → IsScoped o.names op → Forms set label o → IsArg set.table (defined_in label o) (gives_of op.code) value)
     → new ≡ named_as o of value → KeepsAll op o new
-keeps_value op o new of value going pure gives is n = subst (KeepsAll op o) (sym n) (record {
+keeps_value op o new of value going pure gives is form n = subst (KeepsAll op o) (sym n) (record {
   each = λ laws t apart right checked. record {
     going = going;
     more = [];
@@ -66,22 +74,24 @@ keeps_value op o new of value going pure gives is n = subst (KeepsAll op o) (sym
   boxes = omega arith;
   counted = omega arith;
   checked = λ s. no_set op.code pure s;
-  printed = prints_nothing op o (named_as o of value) going refl refl (going, refl) (ap ends (pure_plain op.code pure));
+  printed = prints_nothing op o (named_as o of value) going refl refl (going, refl) (inl (pure_plain op.code pure)) (no_more_counted o.guard (is_guard op.code) (performed_guards op.code (inl (pure_plain op.code pure))));
   to = refl;
   target = refl;
+  forms = keeps_form_value op o of value gives form;
+  names = λ laws. names_given laws op o (named_as o of value) of (Known value) gives refl;
 })
 
 pub keeps_raw : (op : Op) (o new : Pass) (of : BoxId) (value : Arg) (raws : List Arg) → o.ended ≡ false → is_pure op.code ≡ true → op.result ≡ Some of → IsFew raws → raws ≡ map (raw o.names) op.args → Some value ≡ noted o.known op.code raws → new ≡ named_as o of value → KeepsAll op o new
 keeps_raw op o new of value raws going pure gives few is at n = keeps_value op o new of value going pure gives
     (λ laws t r p h vs y there e f.
     let s = named_stand t o r p h (raw o.names) (by_raw t o r p h) op.args vs there e in
-    found_is laws t o r p h op.code raws s.0 vs y value few (sym at) (ap (opt_values p) is ∙ s.1) s.2 f) n
+    found_is laws t o r p h op.code raws s.0 vs y value few (sym at) (ap (opt_values p) is ∙ s.1) s.2 f) (value_noted op o value raws few (sym at)) n
 
 pub keeps_meant : (op : Op) (o new : Pass) (of : BoxId) (value : Arg) (args : List Arg) → o.ended ≡ false → is_pure op.code ≡ true → op.result ≡ Some of → IsFew args → args ≡ args_of o op.args → Some value ≡ noted o.known op.code args → new ≡ named_as o of value → KeepsAll op o new
 keeps_meant op o new of value args going pure gives few is at n = keeps_value op o new of value going pure gives
     (λ laws t r p h vs y there e f.
     let s = args_stand t o r p h op.args vs there e in
-    found_is laws t o r p h op.code args s.0 vs y value few (sym at) (ap (opt_values p) is ∙ s.1) s.2 f) n
+    found_is laws t o r p h op.code args s.0 vs y value few (sym at) (ap (opt_values p) is ∙ s.1) s.2 f) (value_noted op o value args few (sym at)) n
 
 folded_arg_is : (x : Option ℤ) (value : Arg) → Some value ≡ option_map arg.Const x → (z : ℤ) × (x ≡ Some z) × (value ≡ arg.Const z)
 folded_arg_is None value e = absurd (none_some (sym e))
@@ -95,7 +105,7 @@ keeps_folded op o new of value args going pure gives is at n =
     let s = args_stand t o r p h op.args vs there e in
     let g = fold_too laws t o r p h op.code s.0 vs y s.2 f in
     let same : v.Int q.0 ≡ g.0 = some_same (sym (folded_is (value_in p.boxes) op.code args q.0 s.0 q.1 (ap (opt_values p) is ∙ s.1)) ∙ g.1) in
-    (v.Int q.0, refl, subst (λ x. Maps (slice_get h.mapped) x y) (sym same) g.2)) (n ∙ ap (named_as o of) q.2)
+    (v.Int q.0, refl, subst (λ x. Maps (slice_get h.mapped) x y) (sym same) g.2)) (value_folded op o q.0 args pure q.1) (n ∙ ap (named_as o of) q.2)
 
 -- same_as
 
@@ -152,7 +162,7 @@ keeps_same op o new of value raws going pure gives is at n = keeps_value op o ne
     let g = fold_too laws t o r p h op.code s.0 vs y s.2 f in
     let k = passed_on op.code raws value (sym at) in
     let values : opt_values p (value ∷ []) ≡ Some (g.0 ∷ []) = ap (opt_values p) (sym k.0 ∙ is) ∙ s.1 ∙ ap Some (k.1 s.0 g.0 g.1) in
-    (g.0, one_value (value_in p.boxes) value g.0 values, g.2)) n
+    (g.0, one_value (value_in p.boxes) value g.0 values, g.2)) (value_same op o value raws is (sym at)) n
 
 pub keeps_made : (op : Op) (o new : Pass) (of : BoxId) (raws args : List Arg) → o.ended ≡ false → is_pure op.code ≡ true → op.result ≡ Some of → IsFew raws → IsFew args → raws ≡ map (raw o.names) op.args → args ≡ args_of o op.args → IsMadeNoted o new op.code of raws args op.descr → KeepsAll op o new
 keeps_made op o new of raws args going pure gives few_raws few is_raw is made =
@@ -171,7 +181,9 @@ keeps_made op o new of raws args going pure gives few_raws few is_raw is made =
       boxes = omega (arith, size);
       counted = omega (arith, count);
       checked = λ s. no_set op.code pure s;
-      printed = prints_plain op o new (Some (next_box o of)) going (ap (λ (z : Pass). z.ops) noted.rest) (ap (λ (z : Pass). z.guards) noted.rest) (ap (λ (z : Pass). z.ended) noted.rest ∙ going, ap (λ (z : Pass). z.at_end) noted.rest) (ap ends (pure_plain op.code pure));
+      printed = prints_plain op o new (Some (next_box o of)) going (ap (λ (z : Pass). z.ops) noted.rest) (ap (λ (z : Pass). z.guards) noted.rest) (ap (λ (z : Pass). z.ended) noted.rest ∙ going, ap (λ (z : Pass). z.at_end) noted.rest) (inl (pure_plain op.code pure)) count;
       to = ap (λ (z : Pass). z.to) noted.rest;
       target = ap (λ (z : Pass). z.target) noted.rest;
+      forms = keeps_form_made op o new of (inl (pure_plain op.code pure)) gives (subst IsFew is_raw few_raws) (subst IsFew is few) noted;
+      names = λ laws. names_given laws op o new of (Known (arg.Of (next_box o of))) gives (ap (λ (z : Pass). z.names) noted.rest);
     }

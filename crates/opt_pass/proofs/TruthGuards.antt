@@ -39,7 +39,7 @@ use Rattle.opt_pass.specs.Standing.{known_of, at_states, HasPassed, args_in, IsQ
 use Rattle.opt_pass.specs.Keeping.{IsThere, sets_overflow, KeepsAll}
 use Rattle.std.specs.Prelude.{ℤ, pos, not}
 use Rattle.std.proofs.lemmas.Bool.Decides.{Decides-int_eq}
-use Rattle.opt_pass.proofs.Prints.{prints_guard, stays_tested}
+use Rattle.opt_pass.proofs.Prints.{prints_guard}
 use Rattle.opt_pass.proofs.Binding.{box_decides}
 use Rattle.trace_meaning.specs.Passing.{is_zero_word}
 use Rattle.agreement.specs.Guarding.{reads_overflow}
@@ -51,6 +51,10 @@ use Rattle.opt_pass.proofs.Guards.{guard_turns}
 use Rattle.opt_pass.proofs.Arms.{keeps_skipped, keeps_exited, tested_part, HasFrame, framed}
 use Rattle.opt_pass.proofs.Pures.{key_args, key_code, known_noted}
 use Rattle.opt_pass.specs.Laws.{Laws}
+use Rattle.trace_ops.specs.declared.facts.Part.TheVariants as part
+use Rattle.opt_pass.specs.Forming.{KeepsForm}
+use Rattle.opt_pass.proofs.Shaping.{keeps_form_noted, keeps_form_zero}
+use Rattle.opt_pass.proofs.Naming.{names_tested}
 
 false_true : false ≡ true → ⊥
 false_true e = cc
@@ -134,21 +138,28 @@ module _ (laws : Laws) (t : Table) (o : Pass) (r : Rec) (p : Opt) (h : Stands t 
       let values : opt_values p (args_of o op.args) ≡ Some k.0 = ap (opt_values p) (sym ea) ∙ k.1 in
       sym (passes_here laws t o r p h op vs there e (wants, is) k.0 values) ∙ ap (λ z. passes z (args_of o op.args) k.0 p.world) is ∙ truth_alone wants (args_of o op.args) k.0 p.world ∙ opposed wants (args_of o op.args) args k.0 k.2
 
+truth_part : (operation : OpCode) → IsTruth operation → part_of operation ≡ part.Guard
+truth_part operation h = by h.0 h.1
+  where
+    by : (wants : Bool) → operation ≡ truth_code wants → part_of operation ≡ part.Guard
+    by true e = ap part_of e
+    by false e = ap part_of e
+
 pub keeps_opposed : (op : Op) (o new : Pass) (wants : Bool) (args : List Arg) (frames : List Frame) (value : Arg) → o.ended ≡ false → op.code ≡ truth_code wants → args ≡ args_of o op.args → IsFew args → Some value ≡ noted o.passed (truth_code (not wants)) args → frames ≡ op.snapshot → new ≡ exited_at o frames → KeepsAll op o new
-keeps_opposed op o new wants args frames value going is ea few at f n = keeps_exited op o new going (truth_tested op.code (wants, is)) (λ laws t r p h vs there e. opposed_fails laws t o r p h op vs there e wants is args ea few value (sym at)) (n ∙ ap (exited_at o) f)
+keeps_opposed op o new wants args frames value going is ea few at f n = keeps_exited op o new going (truth_part op.code (wants, is)) (λ laws t r p h vs there e. opposed_fails laws t o r p h op vs there e wants is args ea few value (sym at)) (n ∙ ap (exited_at o) f)
 
 -- what was looked up, by other spellings
 pub looked_up : {x : Option Arg} (p : List (Key × Arg)) (q r : OpCode) (a b : List Arg) → x ≡ noted p q a → q ≡ r → a ≡ b → x ≡ noted p r b
 looked_up p q r a b e code args = e ∙ ap (λ z. noted p z a) code ∙ ap (noted p r) args
 
 pub keeps_const_passed : (op : Op) (o new : Pass) (wants : Bool) (args : List Arg) → o.ended ≡ false → op.code ≡ truth_code wants → args ≡ args_of o op.args → known_pass wants args ≡ Some true → new ≡ skipped o → KeepsAll op o new
-keeps_const_passed op o new wants args going is ea known n = keeps_skipped op o new going (truth_tested op.code (wants, is)) (λ laws t r p h vs there e. const_passes laws t o r p h op vs there e wants is args ea true known) n
+keeps_const_passed op o new wants args going is ea known n = keeps_skipped op o new going (truth_part op.code (wants, is)) (λ laws t r p h vs there e. const_passes laws t o r p h op vs there e wants is args ea true known) n
 
 pub keeps_const_failed : (op : Op) (o new : Pass) (wants : Bool) (args : List Arg) (frames : List Frame) → o.ended ≡ false → op.code ≡ truth_code wants → args ≡ args_of o op.args → known_pass wants args ≡ Some false → frames ≡ op.snapshot → new ≡ exited_at o frames → KeepsAll op o new
-keeps_const_failed op o new wants args frames going is ea known f n = keeps_exited op o new going (truth_tested op.code (wants, is)) (λ laws t r p h vs there e. const_passes laws t o r p h op vs there e wants is args ea false known) (n ∙ ap (exited_at o) f)
+keeps_const_failed op o new wants args frames going is ea known f n = keeps_exited op o new going (truth_part op.code (wants, is)) (λ laws t r p h vs there e. const_passes laws t o r p h op vs there e wants is args ea false known) (n ∙ ap (exited_at o) f)
 
 pub keeps_seen : (op : Op) (o new : Pass) (wants : Bool) (args : List Arg) (value : Arg) → o.ended ≡ false → op.code ≡ truth_code wants → args ≡ args_of o op.args → IsFew args → Some value ≡ noted o.passed op.code args → new ≡ skipped o → KeepsAll op o new
-keeps_seen op o new wants args value going is ea few at n = keeps_skipped op o new going (truth_tested op.code (wants, is)) (λ laws t r p h vs there e. seen_passes laws t o r p h op vs there e wants is args ea few value (sym at)) n
+keeps_seen op o new wants args value going is ea few at n = keeps_skipped op o new going (truth_part op.code (wants, is)) (λ laws t r p h vs there e. seen_passes laws t o r p h op vs there e wants is args ea few value (sym at)) n
 
 -- A guard that is printed and noted
 
@@ -323,9 +334,9 @@ false_set op is {A} s = by is
     by (inl q) = absurd (false_true (sym (ap sets_overflow q) ∙ s))
     by (inr q) = absurd (false_true (sym (ap sets_overflow q) ∙ s))
 
-pub keeps_upgraded : (op : Op) (o new : Pass) → o.ended ≡ false → IsTested op.code → new.ops ≡ (kept_at o op.code (args_of o op.args) op.snapshot).ops → new.guards ≡ (kept_at o op.code (args_of o op.args) op.snapshot).guards → HasFrame o new → new.ended ≡ o.ended → new.next ≡ o.next → new.guard ≡ o.guard + 1
+pub keeps_upgraded : (op : Op) (o new : Pass) → o.ended ≡ false → IsTested op.code → new.ops ≡ (kept_at o op.code (args_of o op.args) op.snapshot).ops → new.guards ≡ (kept_at o op.code (args_of o op.args) op.snapshot).guards → HasFrame o new → new.ended ≡ o.ended → new.next ≡ o.next → new.guard ≡ o.guard + 1 → new.names ≡ o.names → KeepsForm op o new
     → ((laws : Laws) (t : Table) (r : Rec) (p q : Opt) → HasGone p q op.code (args_of o op.args) → Stands t (kept_at o op.code (args_of o op.args) op.snapshot) r q → Stands t new r q) → KeepsAll op o new
-keeps_upgraded op o new going is ops guards frame ended next guard up = record {
+keeps_upgraded op o new going is ops guards frame ended next guard names form up = record {
   each = λ laws t apart right checked. record {
     going = going;
     more = opt.Guard op.code (args_of o op.args) o.guard (snap_of o.names o.forward op.snapshot) ∷ [];
@@ -340,15 +351,17 @@ keeps_upgraded op o new going is ops guards frame ended next guard up = record {
   boxes = omega (arith, next);
   counted = omega (arith, guard);
   checked = λ s. false_set op is s;
-  printed = prints_guard op o new going ops guards (ended ∙ going, frame.at_end) (stays_tested op.code is);
+  printed = prints_guard op o new going ops guards (ended ∙ going, frame.at_end) is guard;
   to = frame.to;
   target = frame.target;
+  forms = form;
+  names = λ laws. names_tested op o new is names;
 }
 
 pub keeps_noted : (op : Op) (o new : Pass) (args : List Arg) (frames : List Frame) → o.ended ≡ false → IsTruth op.code → IsFew args → args ≡ args_of o op.args → frames ≡ op.snapshot → IsKeptNoted o new op.code args frames → KeepsAll op o new
 keeps_noted op o new args frames going is few ea ef kept =
     let k : IsKeptNoted o new op.code (args_of o op.args) op.snapshot = subst (λ z. IsKeptNoted o new op.code z op.snapshot) ea (subst (IsKeptNoted o new op.code args) ef kept) in
-    keeps_upgraded op o new going (truth_tested op.code is) (ap (λ (z : Pass). z.ops) k.rest) (ap (λ (z : Pass). z.guards) k.rest) (framed o new (record (kept_at o op.code (args_of o op.args) op.snapshot) { passed = new.passed }) k.rest (record { at_end = refl; to = refl; target = refl })) (ap (λ (z : Pass). z.ended) k.rest) (ap (λ (z : Pass). z.next) k.rest) (ap (λ (z : Pass). z.guard) k.rest)
+    keeps_upgraded op o new going (truth_tested op.code is) (ap (λ (z : Pass). z.ops) k.rest) (ap (λ (z : Pass). z.guards) k.rest) (framed o new (record (kept_at o op.code (args_of o op.args) op.snapshot) { passed = new.passed }) k.rest (record { at_end = refl; to = refl; target = refl })) (ap (λ (z : Pass). z.ended) k.rest) (ap (λ (z : Pass). z.next) k.rest) (ap (λ (z : Pass). z.guard) k.rest) (ap (λ (z : Pass). z.names) k.rest) (keeps_form_noted op o new (truth_tested op.code is) k)
     (λ laws t r p q g s. subst (λ z. Stands t z r q) (sym k.rest) (stands_passed laws t (kept_at o op.code (args_of o op.args) op.snapshot) r q s op.code (args_of o op.args) k.value new.passed (subst IsFew ea few) k.noted (has_passed q op.code (args_of o op.args) is (gone_here p q op.code (args_of o op.args) g))))
 
 zero_only : (us : List Value) → is_zero_word us ≡ Some true → us ≡ v.Int (pos 0) ∷ []
@@ -394,7 +407,7 @@ pub keeps_zero : (op : Op) (o mid new : Pass) (args : List Arg) (frames : List F
 keeps_zero op o mid new args frames b going is few ea only ef kept n =
     let truth : IsTruth op.code = (false, is) in
     let k : IsKeptNoted o mid op.code (args_of o op.args) op.snapshot = subst (λ z. IsKeptNoted o mid op.code z op.snapshot) ea (subst (IsKeptNoted o mid op.code args) ef kept) in
-    keeps_upgraded op o new going (truth_tested op.code truth) (ap (λ (z : Pass). z.ops) n ∙ ap (λ (z : Pass). z.ops) k.rest) (ap (λ (z : Pass). z.guards) n ∙ ap (λ (z : Pass). z.guards) k.rest) (framed o new (standing_for mid b (arg.Const (pos 0))) n (record { at_end = ap (λ (z : Pass). z.at_end) k.rest; to = ap (λ (z : Pass). z.to) k.rest; target = ap (λ (z : Pass). z.target) k.rest })) (ap (λ (z : Pass). z.ended) n ∙ ap (λ (z : Pass). z.ended) k.rest) (ap (λ (z : Pass). z.next) n ∙ ap (λ (z : Pass). z.next) k.rest) (ap (λ (z : Pass). z.guard) n ∙ ap (λ (z : Pass). z.guard) k.rest)
+    keeps_upgraded op o new going (truth_tested op.code truth) (ap (λ (z : Pass). z.ops) n ∙ ap (λ (z : Pass). z.ops) k.rest) (ap (λ (z : Pass). z.guards) n ∙ ap (λ (z : Pass). z.guards) k.rest) (framed o new (standing_for mid b (arg.Const (pos 0))) n (record { at_end = ap (λ (z : Pass). z.at_end) k.rest; to = ap (λ (z : Pass). z.to) k.rest; target = ap (λ (z : Pass). z.target) k.rest })) (ap (λ (z : Pass). z.ended) n ∙ ap (λ (z : Pass). z.ended) k.rest) (ap (λ (z : Pass). z.next) n ∙ ap (λ (z : Pass). z.next) k.rest) (ap (λ (z : Pass). z.guard) n ∙ ap (λ (z : Pass). z.guard) k.rest) (ap (λ (z : Pass). z.names) n ∙ ap (λ (z : Pass). z.names) k.rest) (keeps_form_zero op o mid new b is k (sym ea ∙ only_is args b only) n)
     (λ laws t r p q g s.
     let here = gone_here p q op.code (args_of o op.args) g in
     let one : Stands t mid r q = subst (λ z. Stands t z r q) (sym k.rest) (stands_passed laws t (kept_at o op.code (args_of o op.args) op.snapshot) r q s op.code (args_of o op.args) k.value mid.passed (subst IsFew ea few) k.noted (has_passed q op.code (args_of o op.args) truth here)) in

@@ -32,6 +32,7 @@ use Rattle.opt_pass.proofs.Args.{args_stand, same_class}
 use Rattle.opt_pass.proofs.Arms.{keeps_skipped, keeps_exited, framed}
 use Rattle.opt_pass.proofs.TruthGuards.{gone_here, keeps_upgraded, stands_standing}
 use Rattle.opt_pass.specs.Laws.{Laws}
+use Rattle.opt_pass.proofs.Shaping.{keeps_form_pinned}
 
 false_true : false ≡ true → ⊥
 false_true e = cc
@@ -69,10 +70,10 @@ value_passes laws t o r p h op is args ea q known vs there e =
     ∙ ap (λ z. passes op.code (args_of o op.args) z p.world) values ∙ ap (λ z. passes z (args_of o op.args) (v.Int c.0 ∷ v.Int c.1 ∷ []) p.world) is ∙ ap Some c.3
 
 pub keeps_equal : (op : Op) (o new : Pass) (args : List Arg) → o.ended ≡ false → op.code ≡ code.GuardValue → args ≡ args_of o op.args → known_equal args ≡ Some true → new ≡ skipped o → KeepsAll op o new
-keeps_equal op o new args going is ea known n = keeps_skipped op o new going (inl (ap part_of is)) (λ laws t r p h vs there e. value_passes laws t o r p h op is args ea true known vs there e) n
+keeps_equal op o new args going is ea known n = keeps_skipped op o new going (ap part_of is) (λ laws t r p h vs there e. value_passes laws t o r p h op is args ea true known vs there e) n
 
 pub keeps_unequal : (op : Op) (o new : Pass) (args : List Arg) (frames : List Frame) → o.ended ≡ false → op.code ≡ code.GuardValue → args ≡ args_of o op.args → known_equal args ≡ Some false → frames ≡ op.snapshot → new ≡ exited_at o frames → KeepsAll op o new
-keeps_unequal op o new args frames going is ea known f n = keeps_exited op o new going (inl (ap part_of is)) (λ laws t r p h vs there e. value_passes laws t o r p h op is args ea false known vs there e) (n ∙ ap (exited_at o) f)
+keeps_unequal op o new args frames going is ea known f n = keeps_exited op o new going (ap part_of is) (λ laws t r p h vs there e. value_passes laws t o r p h op is args ea false known vs there e) (n ∙ ap (exited_at o) f)
 
 -- Behind it the box is the constant
 
@@ -109,7 +110,7 @@ pub keeps_pinned : (op : Op) (o mid new : Pass) (args : List Arg) (frames : List
 keeps_pinned op o mid new args frames b c going is ea only ef kept n =
     let k : mid ≡ kept_at o op.code (args_of o op.args) op.snapshot = kept ∙ ap (kept_at o op.code args) ef ∙ ap (λ z. kept_at o op.code z op.snapshot) ea in
     let whole : new ≡ standing_for (kept_at o op.code (args_of o op.args) op.snapshot) b c = n ∙ ap (λ z. standing_for z b c) k in
-    keeps_upgraded op o new going (inl (ap part_of is)) (ap (λ (z : Pass). z.ops) whole) (ap (λ (z : Pass). z.guards) whole) (framed o new (standing_for (kept_at o op.code (args_of o op.args) op.snapshot) b c) whole (record { at_end = refl; to = refl; target = refl })) (ap (λ (z : Pass). z.ended) whole) (ap (λ (z : Pass). z.next) whole) (ap (λ (z : Pass). z.guard) whole)
+    keeps_upgraded op o new going (inl (ap part_of is)) (ap (λ (z : Pass). z.ops) whole) (ap (λ (z : Pass). z.guards) whole) (framed o new (standing_for (kept_at o op.code (args_of o op.args) op.snapshot) b c) whole (record { at_end = refl; to = refl; target = refl })) (ap (λ (z : Pass). z.ended) whole) (ap (λ (z : Pass). z.next) whole) (ap (λ (z : Pass). z.guard) whole) (ap (λ (z : Pass). z.names) whole) (keeps_form_pinned op o new b c is (sym ea ∙ only) whole)
     (λ laws t r p q g s.
     let here = gone_here p q op.code (args_of o op.args) g in
     let value = pinned_value (value_in q.boxes) b c here.1 (ap (opt_values q) (sym only ∙ ea) ∙ here.2) (sym (ap (λ z. passes z (args_of o op.args) here.1 q.world) is) ∙ here.3) in

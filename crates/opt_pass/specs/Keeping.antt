@@ -1,7 +1,8 @@
 -- What every handler owes.
 use Rattle.std.specs.Prelude.{◌≡◌, ◌⊎◌, ℕ, ◌+◌, ◌≤◌, ◌<◌, Bool, true, false, List, [], ◌∷◌, ◌++◌, Some, length, map, take, slice_get}
 use Rattle.std.specs.List.{AllByRecursion, flat_map, sum_by}
-use Rattle.trace_ops.specs.Pieces.{is_end, results_of}
+use Rattle.trace_ops.specs.Classes.{is_guard}
+use Rattle.trace_ops.specs.Pieces.{is_end, results_of, guards_of}
 use Rattle.trace_ops.specs.Rules.{ends}
 use Rattle.trace_ops.specs.declared.piece.PieceId.{PieceId}
 use Rattle.opt_pass.specs.Contract.{HasEntries, IsEnd, GoesOn, EndsWith, own_size, cost_of}
@@ -33,6 +34,11 @@ use Rattle.opt_meaning.specs.Admits.{Admits, plain_entry}
 use Rattle.opt_meaning.specs.Leaving.{SameLeave}
 use Rattle.opt_pass.specs.declared.state.Pass.{Pass}
 use Rattle.opt_pass.specs.Laws.{Laws}
+pub use Rattle.opt_pass.specs.Ruling.{HasKind, EndsRightly}
+use Rattle.opt_pass.specs.Rising.{counted, Pairs, IsPairOf}
+use Rattle.opt_pass.specs.Forming.{Forms, KeepsForm, KeepsNames}
+use Rattle.opt_pass.specs.Building.{guards_in, AreRuled}
+use Rattle.trace_ops.specs.declared.trace.TraceSet.{TraceSet}
 use Rattle.opt_pass.specs.Starting.{numbered_from}
 use Rattle.opt_pass.specs.Standing.{Stands, SameTurn}
 
@@ -40,17 +46,6 @@ use Rattle.opt_pass.specs.Standing.{Stands, SameTurn}
 abbrev pub IsThere : Table → Arg → Type 0
 IsThere t (arg.Ptr k) = k < length t.prebuilts
 IsThere t _ = Unit {0}
-
--- a slot stands for a value
-abbrev pub HasKind : Arg → Type 0
-HasKind (arg.Class k) = ⊥
-HasKind (arg.Func k) = ⊥
-HasKind _ = Unit {0}
-
-abbrev pub EndsRightly : Part → List BoxId → List Arg → Type 0
-EndsRightly part.Jump to args = map kind_of_arg args ≡ map (λ (b : BoxId). Some b.kind) to
-EndsRightly part.Finish to args = length args ≤ 1
-EndsRightly _ to args = Unit {0}
 
 -- what holds of each operation of a lawful set; to are the inputs of the trace that it jumps to
 pub record IsRight (t : Table) (to : List BoxId) (op : Op) : Type 0 where
@@ -113,6 +108,10 @@ pub record Printed (op : Op) (old new : Pass) : Type 0 where
   pub boxes : length (flat_map results_of more) ≤ 1
   pub bare : IsBare old.at_end → IsBare new.at_end
   pub held : AllByRecursion (λ x. IsBare x.1) late
+  pub guard : new.ended ≡ false → new.guard ≡ old.guard + counted (is_guard op.code)
+  pub numbers : AllByRecursion (λ g. g ≡ old.guard) (flat_map guards_of more)
+  pub numbered : length (flat_map guards_of more) ≤ counted (is_guard op.code)
+  pub pairs : IsPairOf op.code more
 
 -- of every lawful table; and each operation makes at most one box, and is at most one guard
 pub record KeepsAll (op : Op) (old new : Pass) : Type 0 where
@@ -123,6 +122,8 @@ pub record KeepsAll (op : Op) (old new : Pass) : Type 0 where
   pub printed : Printed op old new
   pub to : new.to ≡ old.to
   pub target : new.target ≡ old.target
+  pub forms : KeepsForm op old new
+  pub names : Laws → KeepsNames op old new
 
 -- each guard that reads overflow stands behind an operation that sets it
 abbrev pub ArePaired : List Op → Type 0
@@ -184,6 +185,16 @@ pub record Shows (to : PieceId) (e : Entry) (ops : List Op) (o : Pass) : Type 0 
   pub bare : IsBare o.at_end
   pub held : AllByRecursion (λ x. IsBare x.1) o.guards
 
+-- the piece is formed, its guards are the trace's and stand once, and overflow is tested where it is set
+pub record IsBuilt (set : TraceSet) (to : PieceId) (target label : List BoxId) (ops : List Op) (o : Pass) : Type 0 where
+  pub aim : o.to ≡ to
+  pub inputs : o.target ≡ target
+  pub forms : Forms set label o
+  pub guards : AllByRecursion (λ g. g < guards_in ops) (flat_map guards_of o.ops)
+  pub once : IsOnce (flat_map guards_of o.ops)
+  pub pairs : EndsLast ops → Pairs false o.ops false
+
 pub record IsDone (t : Table) (inputs : List BoxId) (to : PieceId) (target : List BoxId) (e : Entry) (ops : List Op) (o : Pass) : Type 0 where
   pub made : IsMade t inputs target e ops o
   pub shows : Shows to e ops o
+  pub built : Laws → AreRight t target e ops → (set : TraceSet) → set.table ≡ t → AreRuled set inputs e ops → IsBuilt set to target (numbered_from e.label 0) ops o

@@ -6,3 +6,8 @@ pub mod Starting
 pub mod Standing
 pub mod Keeping
 pub mod Words
+pub mod Ruling
+pub mod Forming
+pub mod Rising
+pub mod Building
+pub mod Inputs

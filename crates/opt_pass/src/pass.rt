@@ -1,14 +1,17 @@
 //! The pass over a straight trace.
-ghost use Rattle.std.specs.Prelude.{◌≡◌, ℕ, ◌+◌, ◌<◌, ◌≤◌, ◌^◌, Some, OnOk, IfOk, length, map, false, slice_get};
+ghost use Rattle.std.specs.Prelude.{◌≡◌, ℕ, ◌+◌, ◌<◌, ◌≤◌, ◌^◌, List, Option, Some, OnOk, IfOk, length, map, false, slice_get};
 ghost use Rattle.trace_ops.specs.Facts.{part_of as part};
 ghost use Rattle.trace_ops.specs.declared.facts.Part.TheVariants as parts;
 ghost use Rattle.trace_ops.specs.declared.trace.BoxId.{BoxId};
 ghost use Rattle.trace_ops.specs.Constants.{HasWords};
 ghost use Rattle.trace_ops.specs.Kinds.{kind_of_val};
 ghost use Rattle.trace_ops.specs.Lawful.{IsLawful};
+ghost use Rattle.trace_ops.specs.Sound.{IsFormed};
+ghost use Rattle.trace_ops.specs.declared.piece.PieceId.{PieceId};
 ghost use Rattle.trace_meaning.specs.Recorded.{inputs_of, ops_at};
 ghost use Rattle.opt_meaning.specs.Leaving.{Simulates};
 ghost use Rattle.opt_pass.specs.Contract.{JumpsTo, IsOf, HasEntries, EndsWith, IsSmall};
+ghost use Rattle.opt_pass.specs.Inputs.{HasInputs, AreLawful};
 ghost use Rattle.opt_pass.specs.Keeping.{KeepsAll, IsDone};
 
 use crate::laws::laws_hold;
@@ -141,6 +144,8 @@ pub fn optimise(
     ensures piece { IfOk result (λ o. IsOf id entry.now o.piece) }
     ensures entries { IfOk result (λ o. HasEntries o.piece.ops o.at_guards) }
     ensures end { IfOk result (λ o. EndsWith to o.at_end o.piece.ops) }
+    ensures formed { IfOk result (λ o. (labels : PieceId → Option (List BoxId)) → HasInputs labels to (inputs_of (slice_get checked.now.traces to.trace)) → IsFormed checked.now labels o.piece) }
+    ensures lawful { IfOk result (λ o. AreLawful checked.now o.at_guards o.at_end) }
     ensures small { IfOk result (λ o. IsSmall checked.now id.trace entry.now o.piece o.at_guards o.at_end) }
 {
     laws_hold();

@@ -1,0 +1,128 @@
+-- One operation more, built.
+use Rattle.std.proofs.Common.{◌≡◌, ℕ, zero, suc, ◌+◌, ◌<◌, ◌≤◌, Bool, true, false, cond, List, [], ◌∷◌, ◌++◌, Option, Some, None, length, map, take, slice_get, refl, sym, ap, ◌∙◌, subst, append_assoc, arith, ◌⊎◌, inl, inr}
+use Rattle.std.specs.Prelude.{IsSome}
+use Rattle.std.specs.Option.{option_to_list}
+use Rattle.std.specs.List.{AllByRecursion, flat_map, sum_by, count_by}
+use Rattle.std.proofs.lemmas.List.Sums.{sum_by-cons, sum_by-append}
+use Rattle.trace_ops.specs.declared.trace.BoxId.{BoxId}
+use Rattle.trace_ops.specs.declared.trace.Op.{Op}
+use Rattle.trace_ops.specs.declared.trace.Frame.{Frame}
+use Rattle.trace_ops.specs.declared.trace.Arg.{Arg}
+use Rattle.trace_ops.specs.declared.trace.TraceSet.{TraceSet}
+use Rattle.trace_ops.specs.declared.piece.OptOp.{OptOp}
+use Rattle.trace_ops.specs.declared.piece.OptOp.TheVariants as opt
+use Rattle.trace_ops.specs.Classes.{is_guard, is_overflowing, reads_overflow}
+use Rattle.trace_ops.specs.Lawful.{AreDistinct}
+use Rattle.trace_ops.specs.Parts.{boxes_of_arg}
+use Rattle.trace_ops.specs.Pieces.{guards_of, sets_overflow, tests_overflow, is_end}
+use Rattle.trace_ops.specs.Rules.{boxes_in}
+use Rattle.trace_meaning.specs.Recorded.{slots_of}
+use Rattle.lists.specs.Has.{Has, IsOnce}
+use Rattle.lists.proofs.Eaches.{each_weaker, each_append, each_parts}
+use Rattle.lists.proofs.Membership.{has_cases}
+use Rattle.opt_pass.specs.declared.state.Pass.{Pass}
+use Rattle.opt_pass.specs.Laws.{Laws}
+use Rattle.opt_pass.specs.Tables.{Names, name_in}
+use Rattle.opt_pass.specs.Keeping.{Printed, KeepsAll, IsRight, IsEnding, IsEndingBy}
+use Rattle.opt_pass.specs.Rising.{counted, Pairs, sets_behind, IsPairOf}
+use Rattle.opt_pass.specs.Forming.{Forms, IsRuled, IsScoped, HasNames}
+use Rattle.opt_pass.specs.Building.{given_by, guards_in, Built}
+use Rattle.opt_pass.proofs.Snapping.{flat_both, no_more}
+use Rattle.opt_pass.proofs.Rising.{pairs_push, behind_push, once_more}
+
+new_below : (m c : ℕ) (gs : List ℕ) → AllByRecursion (λ g. g ≡ m) gs → length gs ≤ c → AllByRecursion (λ g. g < m + c) gs
+new_below m c [] h few = tt
+new_below m c (g ∷ []) h few = let e : g ≡ m = h.0 in (omega (arith, few, e), tt)
+new_below m c (g ∷ k ∷ gs) h few = let e : g ≡ m = h.0 in (omega (arith, few, e), new_below m c (k ∷ gs) h.1 (omega (arith, few)))
+
+no_end : (x : OptOp) → is_end x ≡ true → sets_overflow x ≡ false
+no_end (opt.Plain c r a d) e = cc
+no_end (opt.Guard c a g s) e = cc
+no_end (opt.Exit g s) e = refl
+no_end (opt.Jump q a) e = refl
+no_end (opt.Finish v) e = refl
+
+false_true : false ≡ true → ⊥
+false_true e = cc
+
+record Paired (ops : List Op) (n : ℕ) (o : Pass) : Type 0 where
+  last : Bool
+  pairs : Pairs false o.ops last
+  goes : o.ended ≡ false → last ≡ sets_behind (take n ops)
+  ends : o.ended ≡ true → last ≡ false
+
+one_pair : (ops : List Op) (n : ℕ) (op : Op) (old new : Pass) (last : Bool) → take (n + 1) ops ≡ take n ops ++ op ∷ [] → Pairs false old.ops last → last ≡ sets_behind (take n ops) → reads_overflow op.code ≡ sets_behind (take n ops) → (more : List OptOp) → new.ops ≡ old.ops ++ more → IsPairOf op.code more → IsEnding old new more → Paired ops (n + 1) new
+one_pair ops n op old new last split p is rule [] e pair ending =
+    let none : last ≡ false = is ∙ sym rule ∙ pair.1 in
+    record {
+      last = last;
+      pairs = subst (λ z. Pairs false z last) (sym (e ∙ no_more old.ops)) p;
+      goes = λ w. none ∙ sym pair.0 ∙ sym (ap sets_behind split ∙ behind_push (take n ops) op);
+      ends = λ w. none;
+    }
+one_pair ops n op old new last split p is rule (x ∷ []) e pair ending = record {
+  last = sets_overflow x;
+  pairs = subst (λ z. Pairs false z (sets_overflow x)) (sym e) (pairs_push false last old.ops x p (pair.1 ∙ rule ∙ sym is));
+  goes = λ w. pair.0 ∙ sym (ap sets_behind split ∙ behind_push (take n ops) op);
+  ends = λ w. by (is_end x) refl ending w;
+}
+  where
+    by : (q : Bool) → is_end x ≡ q → IsEndingBy q old new x → new.ended ≡ true → sets_overflow x ≡ false
+    by true at h w = no_end x at
+    by false at h w = absurd (false_true (sym h.1.0 ∙ w))
+one_pair ops n op old new last split p is rule (x ∷ y ∷ more) e pair ending = absurd ending
+
+slots_flat : (frames : List Frame) → flat_map (λ (f : Frame). flat_map boxes_of_arg f.slots) frames ≡ flat_map boxes_of_arg (slots_of frames)
+slots_flat [] = refl
+slots_flat (f ∷ frames) = ap (λ z. flat_map boxes_of_arg f.slots ++ z) (slots_flat frames) ∙ sym (flat_both boxes_of_arg f.slots (slots_of frames))
+
+scope_of : (names : Names) (known : List BoxId) (op : Op) → ((b : BoxId) → Has known b → IsSome (name_in names b)) → AllByRecursion (Has known) (boxes_in op) → IsScoped names op
+scope_of names known op w h =
+    let s = each_parts (λ (b : BoxId). IsSome (name_in names b)) (flat_map boxes_of_arg op.args) (flat_map (λ (f : Frame). flat_map boxes_of_arg f.slots) op.snapshot) (each_weaker (Has known) (λ (b : BoxId). IsSome (name_in names b)) w (boxes_in op) h) in
+    record { args = s.0; slots = subst (AllByRecursion (λ (b : BoxId). IsSome (name_in names b))) (slots_flat op.snapshot) s.1 }
+
+result_here : (r : Option BoxId) (b : BoxId) → Has (option_to_list r ++ []) b → r ≡ Some b
+result_here None b h = absurd h
+result_here (Some c) b (inl e) = ap Some e
+result_here (Some c) b (inr h) = absurd h
+
+given_more : (inputs : List BoxId) (ops : List Op) (n : ℕ) (op : Op) (b : BoxId) → take (n + 1) ops ≡ take n ops ++ op ∷ [] → Has (given_by inputs (take (n + 1) ops)) b → Has (given_by inputs (take n ops)) b ⊎ (op.result ≡ Some b)
+given_more inputs ops n op b split h = by (has_cases (given_by inputs (take n ops)) (option_to_list op.result ++ []) b (subst (λ z. Has z b) same h))
+  where
+    same : given_by inputs (take (n + 1) ops) ≡ given_by inputs (take n ops) ++ (option_to_list op.result ++ [])
+    same = ap (given_by inputs) split ∙ ap (λ z. inputs ++ z) (flat_both (λ (x : Op). option_to_list x.result) (take n ops) (op ∷ [])) ∙ sym (append_assoc inputs (flat_map (λ (x : Op). option_to_list x.result) (take n ops)) (option_to_list op.result ++ []))
+
+    by : Has (given_by inputs (take n ops)) b ⊎ Has (option_to_list op.result ++ []) b → Has (given_by inputs (take n ops)) b ⊎ (op.result ≡ Some b)
+    by (inl k) = inl k
+    by (inr k) = inr (result_here op.result b k)
+
+pub built_more : (laws : Laws) (set : TraceSet) (label inputs : List BoxId) (ops : List Op) (n : ℕ) (op : Op) (old new : Pass) → take (n + 1) ops ≡ take n ops ++ op ∷ []
+    → AreDistinct old.target → IsRight set.table old.target op → IsRuled set.table op → AllByRecursion (Has (given_by inputs (take n ops))) (boxes_in op) → reads_overflow op.code ≡ sets_behind (take n ops)
+    → Built set label inputs ops n old → KeepsAll op old new → Built set label inputs ops (n + 1) new
+built_more laws set label inputs ops n op old new split apart right ruled scoped tested h k =
+    let p : Printed op old new = k.printed in
+    let pair : Paired ops (n + 1) new = one_pair ops n op old new h.last split h.pairs (h.goes p.going) tested p.more p.ops p.pairs p.ending in
+    let count : guards_in (take (n + 1) ops) ≡ guards_in (take n ops) + counted (is_guard op.code) = ap guards_in split ∙ sum_by-append (λ (x : Op). counted (is_guard x.code)) (take n ops) (op ∷ []) ∙ ap (λ z. guards_in (take n ops) + z) (one op) in
+    let own : old.guard ≡ guards_in (take n ops) = h.guard p.going in
+    let same : flat_map guards_of new.ops ≡ flat_map guards_of old.ops ++ flat_map guards_of p.more = ap (flat_map guards_of) p.ops ∙ flat_both guards_of old.ops p.more in
+    let numbers : AllByRecursion (λ g. g ≡ guards_in (take n ops)) (flat_map guards_of p.more) = each_weaker (λ g. g ≡ old.guard) (λ g. g ≡ guards_in (take n ops)) (λ g e. e ∙ own) (flat_map guards_of p.more) p.numbers in
+    let late : AllByRecursion (λ g. g < guards_in (take n ops) + counted (is_guard op.code)) (flat_map guards_of p.more) = new_below (guards_in (take n ops)) (counted (is_guard op.code)) (flat_map guards_of p.more) numbers p.numbered in
+    let early : AllByRecursion (λ g. g < guards_in (take n ops) + counted (is_guard op.code)) (flat_map guards_of old.ops) = each_weaker (λ g. g < guards_in (take n ops)) (λ g. g < guards_in (take n ops) + counted (is_guard op.code)) (λ g lt. omega (arith, lt)) (flat_map guards_of old.ops) h.guards in
+    record {
+      forms = k.forms laws set label apart right.valued right.ends ruled (scope_of old.names (given_by inputs (take n ops)) op (h.named p.going) scoped) h.forms;
+      named = λ going b has. elim (given_more inputs ops n op b split has) [ inl w ↦ (k.names laws).0 b (h.named p.going b w) | inr w ↦ (k.names laws).1 going ruled.gives b w ];
+      guards = subst (AllByRecursion (λ g. g < guards_in (take (n + 1) ops))) (sym same) (subst (λ c. AllByRecursion (λ g. g < c) (flat_map guards_of old.ops ++ flat_map guards_of p.more)) (sym count) (each_append (λ g. g < guards_in (take n ops) + counted (is_guard op.code)) (flat_map guards_of old.ops) (flat_map guards_of p.more) early late));
+      once = subst IsOnce (sym same) (once_more (guards_in (take n ops)) (flat_map guards_of old.ops) (flat_map guards_of p.more) (few (is_guard op.code) p.numbered) numbers h.guards h.once);
+      guard = λ going. p.guard going ∙ ap (λ z. z + counted (is_guard op.code)) own ∙ sym count;
+      last = pair.last;
+      pairs = pair.pairs;
+      goes = pair.goes;
+      ends = pair.ends;
+    }
+  where
+    one : (x : Op) → sum_by (λ (y : Op). counted (is_guard y.code)) (x ∷ []) ≡ counted (is_guard x.code)
+    one x = let c : sum_by (λ (y : Op). counted (is_guard y.code)) (x ∷ []) ≡ counted (is_guard x.code) + 0 = sum_by-cons (λ (y : Op). counted (is_guard y.code)) x [] in omega (arith, c)
+
+    few : (q : Bool) {m : ℕ} → m ≤ counted q → m ≤ 1
+    few true le = le
+    few false le = omega (arith, le)

@@ -76,13 +76,13 @@ fn guard_true(alloc: Global, of: BoxId, guard: u32, snap: Snapshot) -> Result<Op
 fn plain(
     alloc: Global,
     code: OpCode,
-    result: Option<BoxId>,
+    made: Option<BoxId>,
     args: &[Arg],
     descr: Descr,
 ) -> Result<OptOp, AllocError> {
     Ok(OptOp::Plain {
         code,
-        result,
+        result: made,
         args: list(alloc, args)?,
         descr,
     })
@@ -148,7 +148,7 @@ fn a_virtual_object_and_a_pending_store_stand_behind_the_frames(
     let text = late_store(rt.alloc())?;
     assert!(rt;
         text.as_slice()
-            == b"%opt\npiece L.a [p0, i1]\nguard_true(i1) L/0 @L:0[p0] where v0=node(i1, 0, NULL) pending p0.next=v0\nsetfield_gc(p2, i1, descr=x)\n"
+            == b"%opt\npiece L.a [p0, i1]\nguard_true(i1) L/0 @L:0[p0] where v0=node(i1, 0, NULL) pending p0.next=v0\nsetfield_gc(p2, i1, descr=x)\n".as_slice()
     );
     Ok(())
 }
@@ -177,7 +177,7 @@ fn a_virtual_array_has_its_items_in_brackets(rt: HostRuntime) -> Result<(), Fail
     let text = virtual_array(rt.alloc())?;
     assert!(rt;
         text.as_slice()
-            == b"%opt\npiece L.a [i0]\ni1 = int_add(i0, 3)\nguard_true(i1) L/0 @L:0[v0] where v0=ia[0, 0, i0]\nfinish(i1)\n"
+            == b"%opt\npiece L.a [i0]\ni1 = int_add(i0, 3)\nguard_true(i1) L/0 @L:0[v0] where v0=ia[0, 0, i0]\nfinish(i1)\n".as_slice()
     );
     Ok(())
 }
@@ -203,7 +203,7 @@ fn a_piece_ends_at_an_exit_a_jump_or_a_finish(rt: HostRuntime) -> Result<(), Fai
     let text = endings(rt.alloc())?;
     assert!(rt;
         text.as_slice()
-            == b"%opt\npiece L.b [i0, i1]\nexit L/2 @L:2[i0]\njump L.b(i2, i1)\nfinish()\n"
+            == b"%opt\npiece L.b [i0, i1]\nexit L/2 @L:2[i0]\njump L.b(i2, i1)\nfinish()\n".as_slice()
     );
     Ok(())
 }

@@ -139,6 +139,7 @@ impl Draft {
         requires near { All (λ place. place < 2 ^ 31) to.now }
         ensures from { self.new.from ≡ self.old.from }
         ensures bytes { OnOk result (self.new.bytes.items ≡ self.old.bytes.items ++ emitted (listed to.now) (self.old.from + length self.old.bytes.items) 0 instrs.now jumps.now) }
+        ensures size { OnOk result (length self.new.bytes.items ≡ length self.old.bytes.items + total_size instrs.now) }
         ensures jumps { OnOk result (self.new.jumps.items ≡ self.old.jumps.items ++ noted (self.old.from + length self.old.bytes.items) 0 instrs.now jumps.now) }
     {
         let mut next = 0;

@@ -38,7 +38,7 @@ use Rattle.bridge_patch.proofs.Labels.{words_long, words_distinct, words_few, wo
 
 -- ---- numbers
 
-ops_few : (ops : List OptOp) → length ops ≤ sum_by (λ (op : OptOp). 1 + length (args_of op)) ops
+pub ops_few : (ops : List OptOp) → length ops ≤ sum_by (λ (op : OptOp). 1 + length (args_of op)) ops
 ops_few [] = omega arith
 ops_few (op ∷ ops) = omega (arith, ops_few ops, sum_by-cons (λ (x : OptOp). 1 + length (args_of x)) op ops)
 
@@ -113,7 +113,7 @@ stubs_are k (op ∷ ops) = omega (arith, one_stub (has_stub op), stubs_are (k + 
 zero_near : FitsSigned w32 (pos 0)
 zero_near = omega (arith, ints)
 
-same_key : (js : List (ℕ × ℕ)) → map (with_key 0) js ≡ js
+pub same_key : (js : List (ℕ × ℕ)) → map (with_key 0) js ≡ js
 same_key [] = refl
 same_key ((m, k) ∷ js) =
     let n : 0 + k ≡ k = omega arith in
@@ -128,6 +128,7 @@ fitted fits short have emitted jumps set piece registers places s h a sel =
       allocated = a;
       can = can;
       code = sel;
+      fits = f;
       rows = subst AllHaveRows (sym f.instrs) rows;
       keys =
           let same : s.jumps ≡ jumps_from 0 (all_code f.c 0 tell.Nothing piece.ops) = sym (same_key s.jumps) ∙ f.jumps in

@@ -1,3 +1,5 @@
 pub mod Fitting
 pub mod Pieces
+pub mod Image
 pub mod Planning
+pub mod Laid

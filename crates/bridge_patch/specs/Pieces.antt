@@ -1,5 +1,5 @@
 -- A piece in the code: what stands in front of its first operation, its operations, and behind them the stubs of its exits.
-use Rattle.std.specs.Prelude.{◌≡◌, ℕ, zero, suc, ◌+◌, ◌-◌, ◌*◌, ◌==◌, if◌then◌else◌, Option, Some, None, List, [], ◌∷◌, ◌++◌, length, map, take}
+use Rattle.std.specs.Prelude.{◌≡◌, ◌<◌, ℕ, zero, suc, ◌+◌, ◌-◌, ◌*◌, ◌==◌, if◌then◌else◌, Option, Some, None, List, [], ◌∷◌, ◌++◌, length, map, take}
 use Rattle.std.specs.List.{All, AllZip}
 use Rattle.trace_ops.specs.declared.trace.BoxId.{BoxId}
 use Rattle.trace_ops.specs.declared.trace.Arg.{Arg}
@@ -83,10 +83,10 @@ abbrev pub all_bytes : List Placed → List ℕ
 all_bytes [] = []
 all_bytes (pl ∷ pls) = bytes_in pl ++ all_bytes pls
 
--- pieces from a place on one behind the other, and exits from a number on
-abbrev pub AreLaid : ℕ → ℕ → List Placed → Type 0
-AreLaid at exit [] = Unit {0}
-AreLaid at exit (pl ∷ pls) = (pl.at ≡ at) × (pl.exit ≡ exit) × AreLaid (end_of pl) (exit + exits_in pl.piece.ops) pls
+-- pieces one behind the other, and their exits, from a place and a number on up to others
+abbrev pub AreLaid : ℕ → ℕ → List Placed → ℕ → ℕ → Type 0
+AreLaid at exit [] end last = (at ≡ end) × (exit ≡ last)
+AreLaid at exit (pl ∷ pls) end last = (pl.at ≡ at) × (pl.exit ≡ exit) × AreLaid (end_of pl) (exit + exits_in pl.piece.ops) pls end last
 
 -- ---- places and instructions
 
@@ -171,3 +171,8 @@ rows_of pl = rows_from pl.setting.at pl.piece.id (displacement_of pl) pl.exit 0 
 abbrev pub all_rows : List Placed → List ExitRow
 all_rows [] = []
 all_rows (pl ∷ pls) = rows_of pl ++ all_rows pls
+
+-- each pair has an operation that is one of so many
+abbrev pub FirstsBelow : ℕ → List (ℕ × ℕ) → Type 0
+FirstsBelow count [] = Unit {0}
+FirstsBelow count ((k, at) ∷ jumps) = (k < count) × FirstsBelow count jumps

@@ -1,6 +1,6 @@
 -- How a piece is to be laid out.
 use Rattle.std.specs.Prelude.{◌≡◌, ℕ, ◌+◌, ◌-◌, ◌*◌, ◌^◌, ◌<◌, ◌≤◌, Bool, true, false, Option, Some, None, List, [], ◌∷◌, ◌++◌, length, slice_get, if◌then◌else◌, IsTrue}
-use Rattle.std.specs.List.{All}
+use Rattle.std.specs.List.{All, AllByRecursion}
 use Rattle.trace_ops.specs.declared.code.OpCode.{OpCode}
 use Rattle.trace_ops.specs.declared.trace.BoxId.{BoxId}
 use Rattle.trace_ops.specs.declared.trace.TraceSet.{TraceSet}
@@ -20,10 +20,12 @@ use Rattle.resume_numbering.specs.Numbered.{IsNumbered}
 use Rattle.asm_select.specs.Laid.{has_stub}
 use Rattle.asm_select.specs.Selecting.{CanSelect, IsSelected}
 use Rattle.code_layout.specs.Chosen.{can_fail}
+use Rattle.bridge_patch.specs.Fitting.{Fits}
 use Rattle.code_layout.specs.Emitting.{AllHaveRows, KeysBelow, total_size, emitted}
 use Rattle.linear_scan.specs.declared.places.Places.{Places}
 use Rattle.asm_select.specs.declared.selected.Selected.{Selected}
 use Rattle.bridge_patch.specs.declared.plan.Plan.{Plan}
+use Rattle.bridge_patch.specs.declared.image.PieceHere.{PieceHere}
 use Rattle.bridge_patch.specs.Pieces.{exits_in, label_places, loop_front, spelled, stubs_from}
 
 -- no guard on an exception is kept: it always passes
@@ -61,10 +63,11 @@ pub record IsPlan (set : TraceSet) (piece : Piece) (at exit : ℕ) (plan : Plan)
   pub allocated : Allocated piece registers (label_places (length piece.label)) plan.places
   pub can : CanSelect set piece plan.places (label_places (jump_count piece.ops))
   pub selected : IsSelected set piece plan.places (label_places (jump_count piece.ops)) plan.selected
+  pub fits : Fits set piece plan.places (label_places (jump_count piece.ops)) 0 plan.selected
   pub rows : AllHaveRows plan.selected.instrs
   pub keys : KeysBelow (length piece.ops) plan.selected.jumps
-  pub table : IsNumbered plan.table piece
   pub short : total_size plan.selected.instrs + 16 * exits_in piece.ops ≤ 32 * size_of piece
+  pub small : size_of piece ≤ 524288
 
 -- where the first operation of the piece of this name is to stand
 abbrev pub planned_start : List Plan → PieceId → ℕ
@@ -103,6 +106,7 @@ pub record IsFitted (set : TraceSet) (piece : Piece) (registers : ℕ) (places :
   pub allocated : Allocated piece registers (label_places (length piece.label)) places
   pub can : CanSelect set piece places (label_places (jump_count piece.ops))
   pub code : IsSelected set piece places (label_places (jump_count piece.ops)) selected
+  pub fits : Fits set piece places (label_places (jump_count piece.ops)) 0 selected
   pub rows : AllHaveRows selected.instrs
   pub keys : KeysBelow (length piece.ops) selected.jumps
   pub short : total_size selected.instrs + 16 * exits_in piece.ops ≤ 32 * size_of piece
@@ -117,3 +121,29 @@ abbrev pub laid_bytes : ℕ → (ℕ → ℕ) → Plan → ℕ → List ℕ
 laid_bytes at to plan exits =
     let start = at + total_size plan.front in
     spelled plan.front ++ (emitted to start 0 plan.selected.instrs plan.selected.jumps ++ spelled (stubs_from (start + total_size plan.selected.instrs) plan.exit exits))
+
+-- the room that is enough for pieces
+abbrev pub room_for : List Piece → ℕ
+room_for [] = 0
+room_for (p ∷ ps) = 4 + 32 * size_of p + room_for ps
+
+-- what laying out a piece needs of its plan
+pub record IsReady (piece : Piece) (plan : Plan) : Type 0 where
+  pub front : plan.front ≡ loop_front piece.id.half
+  pub start : plan.start ≡ plan.at + total_size plan.front
+  pub stubs : plan.stubs ≡ plan.start + total_size plan.selected.instrs
+  pub rows : AllHaveRows plan.selected.instrs
+  pub keys : KeysBelow (length piece.ops) plan.selected.jumps
+  pub short : total_size plan.selected.instrs + 16 * exits_in piece.ops ≤ 32 * size_of piece
+  pub small : size_of piece ≤ 524288
+
+-- what is kept of a piece that is laid out as it is planned
+pub record IsHereOf (piece : Piece) (plan : Plan) (here : PieceHere) : Type 0 where
+  pub id : here.id ≡ plan.id
+  pub begins : here.at ≡ plan.at
+  pub start : here.start ≡ plan.start
+  pub table : IsNumbered here.table piece
+
+-- a set, its pieces and their plans
+abbrev pub can_all : TraceSet → ℕ → List Piece → Type 0
+can_all set registers ps = AllByRecursion (λ (p : Piece). CanPlan set p registers) ps

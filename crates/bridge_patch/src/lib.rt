@@ -2,7 +2,12 @@
 #![tactic(auto)]
 
 mod flat;
+mod image;
+mod laying;
 mod given;
 mod layout;
 mod plan;
+mod planning;
 mod rows;
+
+pub use image::{Change, Image, PieceHere};

@@ -12,13 +12,12 @@ use crate::given::{selected_fits, selected_is_short};
 use asm_select::{Selected, chosen_have_rows, select};
 use code_layout::{chosen_jumps, size_of_all, slots_are_emitted};
 use linear_scan::{Places, allocate, numbered_boxes_are_defined};
-use resume_numbering::{ResumeTable, number, sound_pieces_can_be_numbered};
 use std::alloc::{AllocError, Global};
 use target_base::Place;
 use trace_ops::{Half, List, OptOp, Piece, PieceId, TraceSet};
 use x64_encode::{AluOp, Instr, Reg, spellings_are_short};
 
-// A piece with its places, its instructions and its resume table; the instructions in front of its first operation; where
+// A piece with its places and its instructions; the instructions in front of its first operation; where
 // these, its operations and the stubs of its exits are to begin; and the number of its first exit.
 #[derive(Drop)]
 pub(crate) struct Plan {
@@ -30,7 +29,6 @@ pub(crate) struct Plan {
     pub(crate) exit: u32,
     pub(crate) places: Places,
     pub(crate) selected: Selected,
-    pub(crate) table: ResumeTable,
 }
 
 // The places of a label: frame words from 16 on.
@@ -128,11 +126,9 @@ pub(crate) fn planned(
     requires room { at + 4 + 32 * size_of piece.now < 2 ^ 31 }
     ensures { IfOk result (λ plan. IsPlan set.now piece.now at exit plan) }
 {
-    sound_pieces_can_be_numbered();
     spellings_are_short();
     let front = loop_front(alloc, piece.id.half)?;
     let (places, selected) = fitted(alloc, set, piece, registers)?;
-    let table = number(alloc, piece)?;
     let start = at + size_of_all(front.items());
     let stubs = start + size_of_all(selected.instrs.items());
     Ok(Plan {
@@ -144,6 +140,5 @@ pub(crate) fn planned(
         exit,
         places,
         selected,
-        table,
     })
 }

@@ -3,8 +3,8 @@
 
 ghost use Rattle.std.specs.Prelude.{◌≡◌, ℕ, ◌+◌, ◌*◌, ◌<◌, ◌≤◌, ◌^◌, ◌++◌, ◌∷◌, [], length, IfOk, OnOk, slice_index_or};
 ghost use Rattle.asm_select.specs.Given.{where_in};
-ghost use Rattle.code_layout.specs.Emitting.{KeysBelow, listed};
-ghost use Rattle.bridge_patch.specs.Pieces.{exits_in, place_among, boxes_at, finished_boxes, rows_of_op, rows_from};
+ghost use Rattle.code_layout.specs.Emitting.{listed};
+ghost use Rattle.bridge_patch.specs.Pieces.{FirstsBelow, exits_in, place_among, boxes_at, finished_boxes, rows_of_op, rows_from};
 
 use crate::layout::exit_count;
 use crate::plan::Plan;
@@ -15,7 +15,7 @@ use trace_ops::{Arg, BoxId, List, OptOp, PieceId, parts};
 
 // The place of each operation's displacement, by the jumps of so many operations.
 pub(crate) fn displacements(alloc: Global, jumps: &[(u32, u32)], count: usize) -> Result<Vec<u32>, AllocError>
-    requires { KeysBelow count jumps.now }
+    requires { FirstsBelow count jumps.now }
     ensures { IfOk result (λ ats. (k : ℕ) → k < count → slice_index_or ats.items k 0 ≡ place_among k 0 jumps.now) }
 {
     let mut ats = Vec::from_elem(alloc, 0, count)?;

@@ -2,9 +2,6 @@ use Rattle.std.proofs.Common.{◌≡◌, ◌<◌, ◌≤◌, length, ap, arith}
 use Rattle.bridge_patch.proofs.Plans.{instrs_few}
 use Rattle.bridge_patch.proofs.plan.planned.Goals as goal
 
-pub number-requires : goal.number-requires
-number-requires c = c.sound_pieces_can_be_numbered.ensures c.args.set.now c.requires.can.label_of c.args.piece.now c.requires.can.sound
-
 pub size_of_all-requires-2-clause-few : goal.size_of_all-requires-2-clause-few
 size_of_all-requires-2-clause-few c =
     let f = c.in_ok-places.ensures {u = tt} in

@@ -1,5 +1,4 @@
-use Rattle.std.proofs.Common.{◌≡◌, ◌<◌, ℕ, drop, length, get_or}
-use Rattle.code_layout.specs.Emitting.{KeysBelow}
+use Rattle.std.proofs.Common.{drop}
 use Rattle.bridge_patch.proofs.Displaced.{Displaces}
 use Rattle.bridge_patch.proofs.rows.displacements.Given as goal
 

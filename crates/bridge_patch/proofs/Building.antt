@@ -25,7 +25,7 @@ use Rattle.code_layout.specs.Emitting.{total_size, emitted, noted, listed}
 use Rattle.code_layout.specs.Laws.{SlotsAreEmitted, JumpsAreNoted, SizesAreTold}
 use Rattle.bridge_patch.specs.declared.plan.Plan.{Plan}
 use Rattle.bridge_patch.specs.Fitting.{Fits}
-use Rattle.bridge_patch.specs.Pieces.{Placed, body_of, start_of, stubs_of, stub_of, end_of, exits_in, spelled, stubs_from, bytes_in, all_bytes, AreLaid, label_places, IsChosen, Leads, AllLead, place_among, rows_from, displacement_of, rows_of, all_rows}
+use Rattle.bridge_patch.specs.Pieces.{Placed, body_of, start_of, stubs_of, stub_of, end_of, exits_in, spelled, stubs_from, bytes_in, all_bytes, AreLaid, label_places, loop_front, IsChosen, Leads, AllLead, place_among, rows_from, displacement_of, rows_of, all_rows}
 use Rattle.bridge_patch.specs.Planning.{IsPlan, count_of, jump_count, target_of, targets_from, laid_bytes}
 use Rattle.bridge_patch.specs.declared.image.PieceHere.{PieceHere}
 use Rattle.bridge_patch.specs.Image.{IsHere}
@@ -41,6 +41,7 @@ pub record Made (set : TraceSet) (s : PieceId → ℕ) (p : Piece) (x : Plan) (p
   pub id : x.id ≡ pl.piece.id
   pub begins : x.at ≡ pl.at
   pub start : x.start ≡ start_of pl
+  pub front : pl.front ≡ loop_front pl.piece.id.half
   pub chosen : IsChosen set pl
   pub leads : AllLead s pl
 
@@ -120,6 +121,7 @@ stands law set s p x at exit h =
         id = h.id;
         begins = refl;
         start = start;
+        front = h.front;
         chosen = record {
           table = f.table;
           label = subst (λ (w : Where). AllZip (λ (q : Place) (b : BoxId). w b.number ≡ q) (label_places (length p.label)) p.label) (sym f.at) label;

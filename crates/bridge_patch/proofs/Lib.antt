@@ -6,3 +6,4 @@ pub mod Displaced
 pub mod Planned
 pub mod Targets
 pub mod Building
+pub mod LayingAll

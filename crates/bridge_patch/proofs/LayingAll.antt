@@ -1,5 +1,8 @@
 -- Laying out all pieces of loops, one behind the other.
-use Rattle.std.proofs.Common.{◌≡◌, ℕ, zero, suc, ◌+◌, ◌-◌, ◌*◌, ◌<◌, ◌≤◌, ◌^◌, Bool, true, false, cond, List, [], ◌∷◌, ◌++◌, length, take, drop, get_or, refl, sym, ap, ◌∙◌, subst, arith, length-append, length-drop}
+use Rattle.std.proofs.Common.{◌≡◌, ℕ, zero, suc, ◌+◌, ◌-◌, ◌*◌, ◌<◌, ◌≤◌, ◌^◌, Bool, true, false, cond, List, [], ◌∷◌, ◌++◌, length, take, drop, get_or, refl, sym, ap, ◌∙◌, subst, arith, append-nil, length-append, length-drop}
+use Rattle.std.specs.Borrow.{Bor}
+use Rattle.std.proofs.lemmas.List.{take-append-drop}
+use Rattle.bridge_patch.proofs.Lists.{front_of, drop_map}
 use Rattle.std.specs.Prelude.{map}
 use Rattle.std.specs.List.{AllByRecursion}
 use Rattle.trace_ops.specs.declared.trace.TraceSet.{TraceSet}
@@ -180,3 +183,43 @@ laid_of set registers all plans from laid h =
       heres = a.heres;
       short = omega (arith, h.place, h.room);
     }
+
+-- ---- the loop over references to pieces
+
+abbrev pub now_of : Bor Piece → Piece
+now_of b = b.now
+
+pub at_next : (set : TraceSet) (registers : ℕ) (all done : List Piece) (bs : List (Bor Piece)) (k : ℕ) (b : Bor Piece) (plans xdone : List Plan) (from : ℕ) (bytes : List ℕ) (rows : List ExitRow) (heres : List PieceHere)
+    → k < length bs → b ≡ get_or bs k b → LaysAll set registers all done (map now_of (drop k bs)) plans xdone (drop k plans) from bytes rows heres
+    → (k < length plans) × ((x : Plan) → x ≡ get_or plans k x → LaysAll set registers all done (b.now ∷ map now_of (drop (k + 1) bs)) plans xdone (x ∷ drop (k + 1) plans) from bytes rows heres)
+at_next set registers all done bs k b plans xdone from bytes rows heres lt is h =
+    let first = drop_map now_of bs k b lt is in
+    let h1 = subst (λ (l : List Piece). LaysAll set registers all done l plans xdone (drop k plans) from bytes rows heres) first h in
+    let inside = has_plan set h1.at h1.exit h1.end h1.last k b.now (map now_of (drop (k + 1) bs)) plans h1.planned in
+    (inside, λ x e. subst (λ (l : List Plan). LaysAll set registers all done (b.now ∷ map now_of (drop (k + 1) bs)) plans xdone l from bytes rows heres) (front_of plans k x inside e) h1)
+
+nil_of : {X : Type 0} (xs : List X) → length xs ≡ 0 → xs ≡ []
+nil_of [] e = refl
+nil_of (x ∷ xs) e = absurd (no (length xs) e)
+  where
+    no : (n : ℕ) → suc n ≡ 0 → ⊥
+    no n h = omega (arith, h)
+
+no_plans : (set : TraceSet) (at exit end last : ℕ) (xs : List Plan) → ArePlanned set at exit [] xs end last → xs ≡ []
+no_plans set at exit end last [] h = refl
+no_plans set at exit end last (x ∷ xs) h = absurd h
+
+taken_all : {X : Type 0} (k : ℕ) (xs : List X) → drop k xs ≡ [] → take k xs ≡ xs
+taken_all k xs e = sym (append-nil (take k xs)) ∙ ap (λ l. take k xs ++ l) (sym e) ∙ take-append-drop k xs
+
+pub finish : (set : TraceSet) (registers : ℕ) (bs : List (Bor Piece)) (k : ℕ) (plans : List Plan) (from : ℕ) (bytes : List ℕ) (rows : List ExitRow) (heres : List PieceHere)
+    → length bs ≤ k → LaysAll set registers (map now_of bs) (map now_of (take k bs)) (map now_of (drop k bs)) plans (take k plans) (drop k plans) from bytes rows heres
+    → LaysAll set registers (map now_of bs) (map now_of bs) [] plans plans [] from bytes rows heres
+finish set registers bs k plans from bytes rows heres le h =
+    let all = map now_of bs in
+    let none : drop k bs ≡ [] = nil_of (drop k bs) (length-drop k bs ∙ omega (arith, le)) in
+    let h1 = subst (λ (l : List (Bor Piece)). LaysAll set registers all (map now_of (take k bs)) (map now_of l) plans (take k plans) (drop k plans) from bytes rows heres) none h in
+    let h2 = subst (λ (l : List (Bor Piece)). LaysAll set registers all (map now_of l) [] plans (take k plans) (drop k plans) from bytes rows heres) (taken_all k bs none) h1 in
+    let gone : drop k plans ≡ [] = no_plans set h2.at h2.exit h2.end h2.last (drop k plans) h2.planned in
+    let h3 = subst (λ (l : List Plan). LaysAll set registers all all [] plans (take k plans) l from bytes rows heres) gone h2 in
+    subst (λ (l : List Plan). LaysAll set registers all all [] plans l [] from bytes rows heres) (taken_all k plans gone) h3

@@ -7,3 +7,4 @@ pub mod Planned
 pub mod Targets
 pub mod Building
 pub mod LayingAll
+pub mod Compiling

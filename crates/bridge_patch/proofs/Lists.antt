@@ -1,5 +1,6 @@
 -- Lists that are gone through.
-use Rattle.std.proofs.Common.{◌≡◌, ℕ, suc, ◌+◌, ◌<◌, List, [], ◌∷◌, ◌++◌, length, take, drop, get_or, refl, sym, ap, ◌∙◌, arith, drop-cons}
+use Rattle.std.proofs.Common.{◌≡◌, ℕ, suc, ◌+◌, ◌<◌, List, [], ◌∷◌, ◌++◌, length, take, drop, get_or, refl, sym, ap, ◌∙◌, arith, drop-cons, append-nil, length-drop, ◌-◌, ◌≤◌}
+use Rattle.std.proofs.lemmas.List.{take-append-drop}
 use Rattle.std.specs.Prelude.{map}
 use Rattle.std.proofs.lemmas.List.{map-append}
 use Rattle.std.proofs.lemmas.Grind.{take_at_read}
@@ -17,3 +18,23 @@ take_map f xs i x lt e = ap (map f) (take_of xs i x lt e) ∙ map-append f (take
 
 pub drop_map : {X Y : Type 0} (f : X → Y) (xs : List X) (i : ℕ) (x : X) → i < length xs → x ≡ get_or xs i x → map f (drop i xs) ≡ f x ∷ map f (drop (i + 1) xs)
 drop_map f xs i x lt e = ap (map f) (front_of xs i x lt e)
+
+-- what is read at one place is one
+pub get_same : {X : Type 0} (xs : List X) (i : ℕ) (x y : X) → i < length xs → x ≡ get_or xs i x → y ≡ get_or xs i y → x ≡ y
+get_same xs i x y lt a b = a ∙ same xs i x y lt ∙ sym b
+  where
+    same : {X : Type 0} (xs : List X) (i : ℕ) (x y : X) → i < length xs → get_or xs i x ≡ get_or xs i y
+    same xs i x y lt = head_same (sym (drop-cons xs i x lt) ∙ drop-cons xs i y lt)
+      where
+        head_same : {X : Type 0} {a b : X} {l m : List X} → a ∷ l ≡ b ∷ m → a ≡ b
+        head_same e = cc
+
+pub take_whole : {X : Type 0} (k : ℕ) (xs : List X) → length xs ≤ k → take k xs ≡ xs
+take_whole k xs le = sym (append-nil (take k xs)) ∙ ap (λ l. take k xs ++ l) (sym (nil_of (drop k xs) (length-drop k xs ∙ omega (arith, le)))) ∙ take-append-drop k xs
+  where
+    nil_of : {X : Type 0} (ys : List X) → length ys ≡ 0 → ys ≡ []
+    nil_of [] e = refl
+    nil_of (y ∷ ys) e = absurd (no (length ys) e)
+      where
+        no : (n : ℕ) → suc n ≡ 0 → ⊥
+        no n h = omega (arith, h)

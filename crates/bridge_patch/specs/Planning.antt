@@ -19,7 +19,7 @@ use Rattle.linear_scan.specs.Placing.{Allocated}
 use Rattle.resume_numbering.specs.Numbered.{IsNumbered}
 use Rattle.asm_select.specs.Laid.{has_stub}
 use Rattle.asm_select.specs.Selecting.{CanSelect, IsSelected}
-use Rattle.code_layout.specs.Chosen.{can_fail}
+use Rattle.bridge_patch.specs.Image.{KeepsItsGuard}
 use Rattle.bridge_patch.specs.Fitting.{Fits}
 use Rattle.code_layout.specs.Emitting.{AllHaveRows, KeysBelow, total_size, emitted}
 use Rattle.linear_scan.specs.declared.places.Places.{Places}
@@ -27,11 +27,6 @@ use Rattle.asm_select.specs.declared.selected.Selected.{Selected}
 use Rattle.bridge_patch.specs.declared.plan.Plan.{Plan}
 use Rattle.bridge_patch.specs.declared.image.PieceHere.{PieceHere}
 use Rattle.bridge_patch.specs.Pieces.{exits_in, label_places, loop_front, spelled, stubs_from}
-
--- no guard on an exception is kept: it always passes
-abbrev pub KeepsItsGuard : OptOp → Type 0
-KeepsItsGuard (opt.Guard operation args n snap) = can_fail operation ≡ true
-KeepsItsGuard op = Unit {0}
 
 -- how many arguments the jump at the end has
 abbrev pub count_of : Option OptOp → ℕ

@@ -109,10 +109,10 @@ stands law set s p x at exit h =
     let stubs : x.stubs ≡ stubs_of pl = omega (arith, h.stubs, start, size) in
     let st = start_of pl in
     let code : emitted pl.to st 0 x.selected.instrs x.selected.jumps ≡ led_bytes pl.to st body =
-        ap (λ (l : List Instr). emitted pl.to st 0 l x.selected.jumps) f.instrs ∙ ap (emitted pl.to st 0 (instrs_of body)) jumps ∙ law.emitted pl.to st body in
+    ap (λ (l : List Instr). emitted pl.to st 0 l x.selected.jumps) f.instrs ∙ ap (emitted pl.to st 0 (instrs_of body)) jumps ∙ law.emitted pl.to st body in
     let place : st + total_size x.selected.instrs ≡ stubs_of pl = ap (λ (k : ℕ). st + k) size in
     let seen : noted x.start 0 x.selected.instrs x.selected.jumps ≡ jumps_at st body =
-        ap (λ (q : ℕ). noted q 0 x.selected.instrs x.selected.jumps) start ∙ ap (λ (l : List Instr). noted st 0 l x.selected.jumps) f.instrs ∙ ap (noted st 0 (instrs_of body)) jumps ∙ law.noted st body in
+    ap (λ (q : ℕ). noted q 0 x.selected.instrs x.selected.jumps) start ∙ ap (λ (l : List Instr). noted st 0 l x.selected.jumps) f.instrs ∙ ap (noted st 0 (instrs_of body)) jumps ∙ law.noted st body in
     let label = law.labels p h.registers (label_places (length p.label)) x.places h.can.sound.formed.boxes_numbered h.allocated (words_long 16 (length p.label)) in
     record {
       pl = pl;

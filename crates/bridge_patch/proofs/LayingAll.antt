@@ -109,8 +109,8 @@ lays_more law set registers all done done' rest plans xdone xdone' xrest p x y f
     let same : exits_in t.pl.piece.ops ≡ exits_in p.ops = ap (λ (q : Piece). exits_in q.ops) t.made.piece in
     let few : t.pl.exit + exits_in t.pl.piece.ops < 2 ^ 31 = omega (arith, t.first, same, h.exits, h.room, h.limit, i.short) in
     let long : length bytes' ≡ x.stubs + 16 * exits_in p.ops =
-        ap length b ∙ length-append bytes (laid_bytes x.at (listed (targets_from s x.stubs p.ops)) x (exits_in p.ops))
-        ∙ omega (arith, ap length t.bytes, piece_long law t.pl few, t.here, t.end, h.place) in record {
+    ap length b ∙ length-append bytes (laid_bytes x.at (listed (targets_from s x.stubs p.ops)) x (exits_in p.ops))
+    ∙ omega (arith, ap length t.bytes, piece_long law t.pl few, t.here, t.end, h.place) in record {
       at = x.stubs + 16 * exits_in p.ops;
       exit = h.exit + exits_in p.ops;
       end = h.end;

@@ -10,7 +10,10 @@ use std::alloc::{AllocError, Global};
 use trace_ops::{OptTrace, Piece};
 
 // Adds the pieces of one trace.
-pub(crate) fn add_pieces<'a>(all: &mut Vec<&'a Piece>, pieces: &'a [Piece]) -> Result<(), AllocError>
+pub(crate) fn add_pieces<'a>(
+    all: &mut Vec<&'a Piece>,
+    pieces: &'a [Piece],
+) -> Result<(), AllocError>
     ensures { OnOk result (map (λ (b : Bor Piece). b.now) all.new.items ≡ map (λ (b : Bor Piece). b.now) all.old.items ++ pieces.now) }
 {
     for piece in pieces {

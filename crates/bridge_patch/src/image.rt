@@ -81,7 +81,12 @@ impl Image {
     /// The image of the optimised loops of a set, in which each operation's box is in one of the first `registers` registers for
     /// values or in a frame word. The set is in range and not too heavy; there is one trace of pieces a loop, in order, with the
     /// loop's preamble and then its body or nothing; these are sound, lead to one another and keep no guard on an exception.
-    pub fn compile(alloc: Global, set: &TraceSet, loops: &[OptTrace], registers: u8) -> Result<Image, AllocError>
+    pub fn compile(
+        alloc: Global,
+        set: &TraceSet,
+        loops: &[OptTrace],
+        registers: u8,
+    ) -> Result<Image, AllocError>
         requires { CanCompile set.now loops.now registers }
         ensures image { IfOk result (λ image. IsImage set.now (all_pieces loops.now) image) }
         ensures attached { IfOk result (λ image. image.attached ≡ []) }

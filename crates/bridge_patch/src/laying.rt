@@ -13,11 +13,11 @@ ghost use Rattle.guard_exit.specs.Codes.{common_code};
 ghost use Rattle.resume_numbering.specs.Conditions.{CanNumber};
 ghost use Rattle.bridge_patch.specs.Planning.{IsReady, StartsBelow, planned_start, targets_from, laid_bytes, IsHereOf, can_all, room_for};
 
+use crate::image::PieceHere;
 use crate::layout::{exits_in, lay_out, targets};
 use crate::plan::Plan;
-use crate::rows::{add_rows, displacements};
-use crate::image::PieceHere;
 use crate::planning::plan_all;
+use crate::rows::{add_rows, displacements};
 use asm_select::{exits_have_rows, labels_serve};
 use code_layout::{Draft, slots_are_emitted};
 use guard_exit::{ExitRow, common_exit};

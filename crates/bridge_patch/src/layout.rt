@@ -63,7 +63,12 @@ fn target_of(plans: &[Plan], stub: u32, op: &OptOp) -> u32
 }
 
 // Where the jump of each operation leads, the first stub being at this place.
-pub(crate) fn targets(alloc: Global, plans: &[Plan], stubs: u32, ops: &[OptOp]) -> Result<Vec<u32>, AllocError>
+pub(crate) fn targets(
+    alloc: Global,
+    plans: &[Plan],
+    stubs: u32,
+    ops: &[OptOp],
+) -> Result<Vec<u32>, AllocError>
     requires { stubs + 16 * exits_in ops.now < 2 ^ 31 }
     ensures { IfOk result (λ to. to.items ≡ targets_from (planned_start plans.now) stubs ops.now) }
 {
@@ -103,7 +108,12 @@ fn add_stubs(draft: &mut Draft, exit: u32, count: u32) -> Result<(), AllocError>
 }
 
 // Adds the code of a piece, whose operations' jumps lead to these places; the places of their displacements are noted.
-pub(crate) fn lay_out(draft: &mut Draft, plan: &Plan, to: &[u32], exits: u32) -> Result<(), AllocError>
+pub(crate) fn lay_out(
+    draft: &mut Draft,
+    plan: &Plan,
+    to: &[u32],
+    exits: u32,
+) -> Result<(), AllocError>
     requires front { AllHaveRows plan.now.front }
     requires rows { AllHaveRows plan.now.selected.instrs }
     requires keys { KeysBelow (length to.now) plan.now.selected.jumps }
@@ -117,7 +127,11 @@ pub(crate) fn lay_out(draft: &mut Draft, plan: &Plan, to: &[u32], exits: u32) ->
 {
     draft.jumps.clear();
     draft.add_all(plan.front.items(), &[], to)?;
-    draft.add_all(plan.selected.instrs.items(), plan.selected.jumps.items(), to)?;
+    draft.add_all(
+        plan.selected.instrs.items(),
+        plan.selected.jumps.items(),
+        to,
+    )?;
     add_stubs(draft, plan.exit, exits)?;
     Ok(())
 }

@@ -2,9 +2,9 @@
 #![tactic(auto)]
 
 mod flat;
+mod given;
 mod image;
 mod laying;
-mod given;
 mod layout;
 mod plan;
 mod planning;

@@ -85,7 +85,12 @@ fn places_of(alloc: Global, piece: &Piece, registers: u8) -> Result<Places, Allo
 }
 
 // The instructions of a piece over these places.
-fn choose(alloc: Global, set: &TraceSet, piece: &Piece, places: &Places) -> Result<Selected, AllocError>
+fn choose(
+    alloc: Global,
+    set: &TraceSet,
+    piece: &Piece,
+    places: &Places,
+) -> Result<Selected, AllocError>
     requires { CanSelect set.now piece.now places.now (label_places (jump_count piece.now.ops)) }
     ensures { IfOk result (λ s. IsSelected set.now piece.now places.now (label_places (jump_count piece.now.ops)) s) }
 {

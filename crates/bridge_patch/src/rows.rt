@@ -14,7 +14,11 @@ use target_base::Place;
 use trace_ops::{Arg, BoxId, List, OptOp, PieceId, parts};
 
 // The place of each operation's displacement, by the jumps of so many operations.
-pub(crate) fn displacements(alloc: Global, jumps: &[(u32, u32)], count: usize) -> Result<Vec<u32>, AllocError>
+pub(crate) fn displacements(
+    alloc: Global,
+    jumps: &[(u32, u32)],
+    count: usize,
+) -> Result<Vec<u32>, AllocError>
     requires { FirstsBelow count jumps.now }
     ensures { IfOk result (λ ats. (k : ℕ) → k < count → slice_index_or ats.items k 0 ≡ place_among k 0 jumps.now) }
 {
@@ -36,7 +40,11 @@ fn place_of(at: &[Place], number: u32) -> Place
 }
 
 // Boxes with their places.
-fn boxes_at(alloc: Global, at: &[Place], boxes: &[BoxId]) -> Result<List<(BoxId, Place)>, AllocError>
+fn boxes_at(
+    alloc: Global,
+    at: &[Place],
+    boxes: &[BoxId],
+) -> Result<List<(BoxId, Place)>, AllocError>
     ensures { IfOk result (λ rows. rows ≡ boxes_at (where_in at.now) boxes.now) }
 {
     let mut rows = Vec::new(alloc);
@@ -73,12 +81,24 @@ fn add_row(
         OptOp::Guard { guard, snap, .. } | OptOp::Exit { guard, snap } => {
             let places = boxes_at(alloc, at, &parts(alloc, snap)?)?;
             let guard = Some(*guard);
-            rows.push(ExitRow { exit, id, guard, at: place, places })?;
+            rows.push(ExitRow {
+                exit,
+                id,
+                guard,
+                at: place,
+                places,
+            })?;
             Ok(())
         }
         OptOp::Finish { value } => {
             let places = boxes_at(alloc, at, &finished_boxes(alloc, *value)?)?;
-            rows.push(ExitRow { exit, id, guard: None, at: 0, places })?;
+            rows.push(ExitRow {
+                exit,
+                id,
+                guard: None,
+                at: 0,
+                places,
+            })?;
             Ok(())
         }
         OptOp::Plain { .. } | OptOp::Jump { .. } => Ok(()),

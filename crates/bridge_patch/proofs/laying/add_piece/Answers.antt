@@ -23,7 +23,7 @@ pub lay_out-requires-clause-keys : goal.lay_out-requires-clause-keys
 lay_out-requires-clause-keys c =
     let s = planned_start c.args.plans.now in
     let to : length c.deref.result.now ≡ length c.args.piece.now.ops =
-        ap length c.deref.ensures.value ∙ ap length (c.in_ok-to.ensures {u = tt}) ∙ targets_long s c.args.plan.now.stubs c.items-ops.result.now ∙ ap length c.items-ops.ensures in
+    ap length c.deref.ensures.value ∙ ap length (c.in_ok-to.ensures {u = tt}) ∙ targets_long s c.args.plan.now.stubs c.items-ops.result.now ∙ ap length c.items-ops.ensures in
     subst (λ (k : ℕ). KeysBelow k c.args.plan.now.selected.jumps) (sym to) c.requires.ready.keys
 
 pub lay_out-requires-clause-near : goal.lay_out-requires-clause-near
@@ -37,10 +37,9 @@ lay_out-requires-clause-near c =
 pub lay_out-requires-clause-short : goal.lay_out-requires-clause-short
 lay_out-requires-clause-short c =
     let instrs = c.args.plan.now.selected.instrs in
-    let few = front_few c.args.piece.now.id.half in
-    (
+    let few = front_few c.args.piece.now.id.half in (
       subst (λ (f : List Instr). length f < 2 ^ 27) (sym c.requires.ready.front) few,
-      omega (arith, instrs_few c.spellings_are_short.ensures.least instrs, c.requires.ready.short, c.requires.ready.small)
+      omega (arith, instrs_few c.spellings_are_short.ensures.least instrs, c.requires.ready.short, c.requires.ready.small),
     )
 
 pub displacements-requires : goal.displacements-requires
@@ -64,8 +63,8 @@ returns-clause-rows c =
     let f : ℕ → ℕ = listed c.deref-3.result.now in
     let g : ℕ → ℕ = λ (k : ℕ). place_among k 0 ns in
     let same : (j : ℕ) → j < length ops → f j ≡ g j =
-        λ (j : ℕ) (lt : j < length ops).
-            ap (λ (l : List ℕ). slice_index_or l j 0) c.deref-3.ensures.value ∙ c.in_ok-ats.ensures {u = tt} j (omega (arith, lt, n)) ∙ ap (place_among j 0) e in
+    λ (j : ℕ) (lt : j < length ops).
+    ap (λ (l : List ℕ). slice_index_or l j 0) c.deref-3.ensures.value ∙ c.in_ok-ats.ensures {u = tt} j (omega (arith, lt, n)) ∙ ap (place_among j 0) e in
     c.in_ok-add_rows.ensures {u = tt}
     ∙ ap (λ (l : List OptOp). c.args.rows.now.items ++ rows_from at plan.id f plan.exit 0 l) c.items-ops.ensures
     ∙ ap (λ (l : List ExitRow). c.args.rows.now.items ++ l) (rows_same at plan.id f g plan.exit 0 (length ops) ops same (omega arith))

@@ -20,13 +20,13 @@ returns-clause-bytes c =
     let x : one ≡ old ++ spelled plan.front = c.in_ok-add_all.ensures.bytes ∙ ap (λ (l : List ℕ). old ++ l) (emitted_none to at 0 c.items.result.now ∙ ap spelled c.items.ensures) in
     let p : c.add_all.new.self.from + length one ≡ start = omega (arith, size, c.in_ok-add_all.ensures.from) in
     let y : two ≡ one ++ emitted to start 0 plan.selected.instrs plan.selected.jumps =
-        c.in_ok-add_all-2.ensures.bytes
-        ∙ ap (λ (q : ℕ). one ++ emitted to q 0 c.items-2.result.now c.items-3.result.now) p
-        ∙ ap (λ (l : List Instr). one ++ emitted to start 0 l c.items-3.result.now) c.items-2.ensures
-        ∙ ap (λ (l : List (ℕ × ℕ)). one ++ emitted to start 0 plan.selected.instrs l) c.items-3.ensures in
+    c.in_ok-add_all-2.ensures.bytes
+    ∙ ap (λ (q : ℕ). one ++ emitted to q 0 c.items-2.result.now c.items-3.result.now) p
+    ∙ ap (λ (l : List Instr). one ++ emitted to start 0 l c.items-3.result.now) c.items-2.ensures
+    ∙ ap (λ (l : List (ℕ × ℕ)). one ++ emitted to start 0 plan.selected.instrs l) c.items-3.ensures in
     let q : c.add_all-2.new.self.from + length two ≡ start + total_size plan.selected.instrs = omega (arith, size, sizes, c.in_ok-add_all.ensures.from, c.in_ok-add_all-2.ensures.from) in
     let z : c.add_stubs.new.draft.bytes.items ≡ two ++ spelled (stubs_from (start + total_size plan.selected.instrs) plan.exit c.args.exits) =
-        c.in_ok-add_stubs.ensures.bytes ∙ ap (λ (k : ℕ). two ++ spelled (stubs_from k plan.exit c.args.exits)) q in
+    c.in_ok-add_stubs.ensures.bytes ∙ ap (λ (k : ℕ). two ++ spelled (stubs_from k plan.exit c.args.exits)) q in
     parts_join old (spelled plan.front) (emitted to start 0 plan.selected.instrs plan.selected.jumps) (spelled (stubs_from (start + total_size plan.selected.instrs) plan.exit c.args.exits)) one two c.add_stubs.new.draft.bytes.items x y z
 
 pub returns-clause-jumps : goal.returns-clause-jumps

@@ -15,7 +15,7 @@ use Rattle.target_base.specs.declared.place.Place.TheVariants.{In, Word}
 use Rattle.linear_scan.specs.declared.places.Places.{Places}
 use Rattle.linear_scan.specs.Living.{start_of, end_of, uses_box, LivesAt, LivesAcross}
 use Rattle.linear_scan.specs.Numbering.{AreNumbered, AreDefined, BoxesLive}
-use Rattle.linear_scan.specs.Registers.{value_registers, is_kept}
+use Rattle.linear_scan.specs.Registers.{value_registers, is_kept, IsValueRegister}
 use Rattle.linear_scan.specs.Placing.{Allocated, words_used}
 use Rattle.asm_select.specs.declared.told.Told.TheVariants as tell
 use Rattle.asm_select.specs.Valued.{MayHold}
@@ -66,6 +66,9 @@ free_holds r f = record {
   not_saved = λ k lt e. in_word r k e;
 }
 
+pub value_holds : (registers : ℕ) (r : Reg) → IsValueRegister registers r.0 → MayHold (In r)
+value_holds registers r v = free_holds r (free_among value_registers v.0 r.0 all_free v.2)
+
 word_is : (j k : ℕ) → Word j ≡ Word k → j ≡ k
 word_is j k e = cc
 
@@ -88,8 +91,7 @@ used_words (In r ∷ ps) (suc b) w e = used_words ps b w e
 used_words (Word k ∷ ps) (suc b) w e = let h = used_words ps b w e in grind (arith, h)
 
 one_holds : (piece : Piece) (registers : ℕ) (label : List Place) (places : Places) (b : ℕ) (p : Place) → Allocated piece registers label places → places.words ≤ 1048320 → slice_get places.at b ≡ Some p → MayHold p
-one_holds piece registers label places b (In r) a few e =
-    let v = (a.lawful b r.0 e).0 in free_holds r (free_among value_registers v.0 r.0 all_free v.2)
+one_holds piece registers label places b (In r) a few e = value_holds registers r (a.lawful b r.0 e).0
 one_holds piece registers label places b (Word w) a few e =
     word_holds w (a.low b w e) (omega (arith, few, a.words, used_words places.at b w e))
 

@@ -1,5 +1,5 @@
 -- What is chosen for some short pieces.
-use Rattle.std.proofs.Common.{◌≡◌, ℕ, [], ◌∷◌, Some, None, refl, pos}
+use Rattle.std.proofs.Common.{◌≡◌, ℕ, ◌+◌, [], ◌∷◌, Some, None, refl, pos}
 use Rattle.trace_ops.specs.declared.code.OpCode.TheVariants as code
 use Rattle.trace_ops.specs.declared.table.Table.{Table}
 use Rattle.trace_ops.specs.declared.trace.Kind.TheVariants as kind
@@ -12,11 +12,11 @@ use Rattle.x64_encode.specs.declared.instr.AluOp.TheVariants as alu
 use Rattle.x64_encode.specs.declared.instr.Cc.TheVariants as cc_is
 use Rattle.x64_encode.specs.declared.instr.Instr.TheVariants.{Alu, AluImm, Load, MovImm, Jcc, CallReg, Set, Movzx, MovReg}
 use Rattle.x64_encode.specs.declared.instr.Mem.TheVariants as mem
-use Rattle.target_base.specs.declared.place.Place.TheVariants.{In}
+use Rattle.target_base.specs.declared.place.Place.TheVariants.{In, Word}
 use Rattle.parallel_move.specs.declared.moving.Move.TheVariants.{Copy}
 use Rattle.guard_exit.specs.Codes.{register}
 use Rattle.asm_select.specs.declared.told.Told.TheVariants as tell
-use Rattle.asm_select.specs.Slots.{Put, Leave, Go, sizes_of}
+use Rattle.asm_select.specs.Slots.{Put, Leave, Go, sizes_of, bytes_of, unset}
 use Rattle.asm_select.specs.Chosen.{Setting, all_code}
 
 abbrev int : ℕ → BoxId
@@ -75,3 +75,21 @@ calls = refl
 
 class_size : sizes_of (Put (AluImm alu.Cmp (register 0) (pos 1)) ∷ Put (Jcc cc_is.B (pos 7)) ∷ Put (Load (register 11) (mem.At (register 0) (pos 0))) ∷ Put (AluImm alu.Cmp (register 11) (pos 1)) ∷ Leave cc_is.Ne 0 ∷ []) ≡ 23
 class_size = refl
+
+-- ---- bytes
+
+-- cmp rax, rcx; jge with its displacement still to be set
+fused_bytes : bytes_of unset (Put (Alu alu.Cmp (register 0) (register 1)) ∷ Leave cc_is.Ge 1 ∷ []) ≡ 0x48 ∷ 0x39 ∷ 0xC8 ∷ 0x0F ∷ 0x8D ∷ 0 ∷ 0 ∷ 0 ∷ 0 ∷ []
+fused_bytes = refl
+
+-- mov rcx, [rax + 8]
+field_bytes : bytes_of unset (Put (Load (register 1) (mem.At (register 0) (pos 8))) ∷ []) ≡ 0x48 ∷ 0x8B ∷ 0x48 ∷ 0x08 ∷ []
+field_bytes = refl
+
+-- box n stands in frame word 16 + n
+abbrev spilled : Setting
+spilled = record { table = no_table; at = λ n. Word (16 + n); to = []; moves = []; call_moves = λ k. [] }
+
+-- a sum of words: mov r11, [rbp]; mov r15, [rbp + 8]; add r11, r15; mov [rbp + 16], r11
+sum_of_words : bytes_of unset (all_code spilled 0 tell.Nothing (opt.Plain code.IntAdd (Some (int 2)) (Of (int 0) ∷ Of (int 1) ∷ []) descr.No ∷ [])) ≡ 0x4C ∷ 0x8B ∷ 0x5D ∷ 0x00 ∷ 0x4C ∷ 0x8B ∷ 0x7D ∷ 0x08 ∷ 0x4D ∷ 0x01 ∷ 0xFB ∷ 0x4C ∷ 0x89 ∷ 0x5D ∷ 0x10 ∷ []
+sum_of_words = refl

@@ -166,6 +166,7 @@ guard_counts code.GuardNonnull args vs o h = refl
 guard_counts code.GuardIsnull args vs o h = refl
 guard_counts code.GuardNoOverflow args vs o h = refl
 guard_counts code.GuardOverflow args vs o h = refl
+guard_counts code.GuardNoException args vs o h = refl
 guard_counts code.GuardClass args vs o h = absurd (cc)
 guard_counts code.GuardNonnullClass args vs o h = absurd (cc)
 guard_counts _ args vs o h = absurd h

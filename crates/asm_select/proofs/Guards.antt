@@ -20,7 +20,7 @@ use Rattle.trace_meaning.specs.declared.value.Object.{Object}
 use Rattle.trace_meaning.specs.Values.{same_reference}
 use Rattle.trace_meaning.specs.Boxes.{same_box, value_in, arg_value, all_values, has_value, with_first}
 use Rattle.trace_meaning.specs.Passing.{passes, is_zero, is_zero_word, are_equal, is_null, negated}
-use Rattle.trace_meaning.specs.Legs.{Turn, Fails}
+use Rattle.trace_meaning.specs.Legs.{Turn, Fails, On}
 use Rattle.opt_meaning.specs.Step.{Opt, opt_values, opt_guard, opt_leave, opt_test, resume_args}
 use Rattle.arena_objects.specs.Layout.{address_of, word_of}
 use Rattle.arena_objects.specs.Standing.{IsPart, Stands}
@@ -425,6 +425,21 @@ any_args : (c : Setting) (k : ℕ) (told : Told) (operation : OpCode) (args : Li
 any_args c k told operation args n snap ops env more p s None go = tt
 any_args c k told operation args n snap ops env more p s (Some vs) go = go vs
 
+-- a guard that passes without an instruction
+nothing_does : (c : Setting) (k : ℕ) (told : Told) (operation : OpCode) (args : List Arg) (n : ℕ) (snap : Snapshot) (ops : List OptOp) (env : Opt) (more : List Slot) (p : ℕ) (s : State) → Holds c told (opt.Guard operation args n snap ∷ ops) env s → s.at ≡ 0x40000000 + p → FollowsBy c k (opt.Guard operation args n snap) ops more more p s (On env)
+nothing_does c k told operation args n snap ops env more p s h at =
+    stay p more s (λ t. Holds c tell.Nothing ops env t × SameArena s t) at (
+      record {
+        fit = h.fit;
+        arena = h.arena;
+        prebuilts = h.prebuilts;
+        values = h.values;
+        boxes = λ q x u e. h.boxes q x (inr (λ z. z, u)) e;
+        flags = tt;
+      },
+      record { arena = refl; loads = refl; stores = refl },
+    )
+
 -- a guard on a class comes elsewhere
 abbrev pub is_class_guard : OpCode → Bool
 is_class_guard code.GuardClass = true
@@ -446,6 +461,8 @@ guard_follows c k told code.GuardNoOverflow args n snap ops env more p s relied 
     any_args c k told code.GuardNoOverflow args n snap ops env more p s (opt_values env args) (λ vs. over_does c k told args n snap ops env more p s m (over refl) h at)
 guard_follows c k told code.GuardOverflow args n snap ops env more p s relied m w other here va over h at =
     any_args c k told code.GuardOverflow args n snap ops env more p s (opt_values env args) (λ vs. under_does c k told args n snap ops env more p s m (over refl) h at)
+guard_follows c k told code.GuardNoException args n snap ops env more p s relied m w other here va over h at =
+    any_args c k told code.GuardNoException args n snap ops env more p s (opt_values env args) (λ vs. nothing_does c k told code.GuardNoException args n snap ops env more p s h at)
 guard_follows c k told code.GuardClass args n snap ops env more p s relied m w other here va over h at = absurd (cc)
 guard_follows c k told code.GuardNonnullClass args n snap ops env more p s relied m w other here va over h at = absurd (cc)
 guard_follows c k told _ args n snap ops env more p s relied m w other here va over h at = absurd here

@@ -7,7 +7,7 @@ use Rattle.trace_ops.specs.declared.code.OpCode.{OpCode}
 use Rattle.trace_ops.specs.declared.code.OpCode.TheVariants as code
 use Rattle.trace_ops.specs.declared.trace.BoxId.{BoxId}
 use Rattle.trace_ops.specs.declared.trace.Arg.{Arg}
-use Rattle.trace_ops.specs.declared.trace.Arg.TheVariants.{Class, Func}
+use Rattle.trace_ops.specs.declared.trace.Arg.TheVariants.{Of, Const, Null, Class, Func, Ptr}
 use Rattle.trace_ops.specs.declared.trace.Descr.{Descr}
 use Rattle.trace_ops.specs.declared.trace.Descr.TheVariants as descr
 use Rattle.trace_ops.specs.declared.piece.Spot.TheVariants as spot
@@ -50,11 +50,13 @@ use Rattle.parallel_move.specs.declared.moving.Move.TheVariants.{Copy, Swap}
 use Rattle.asm_select.specs.Slots.{Leave, Go, puts, sizes_of}
 use Rattle.asm_select.specs.Chosen.{Setting, entry_of, entry_number, call_code, new_code, new_array_code, for_call, function_code, operand_of, stands_at, reg_or, home_of, load_code, take_code, put_code, alu_code, arith_code, work_of, two_code, shift_code, truth_code, truth_unless, compare_code, test_code, clamp_code, one_code, unary_form, binary_form, unary_code, binary_code, is_lone, tells, plain_code, word_code, access_form, access_code, call_if, is_host_call, result_place, read_code, write_code, read_item_code, write_item_code, is_near, item_code, set_item_code, class_code, header_code, nonnull_class_code, leave_false, leave_true, guard_code, copy_code, swap_by, swap_code, move_code, moves_code, set_code, set_operand, pair_of, pairs_of, constants_code, jump_code, told_by, code_of, all_code}
 use Rattle.asm_select.specs.Ended.{TableServes, IsGuardHere, IsAccess, IsPlain, IsHere}
-use Rattle.asm_select.specs.Laid.{has_stub, ChosenAreShort}
-use Rattle.asm_select.specs.Asked.{IsAskedAs, IsAskedIf, IsAsked}
-use Rattle.asm_select.specs.Reached.{HasWords, IsWordArg}
+use Rattle.asm_select.specs.Laid.{has_stub, stub_sizes, ChosenAreShort}
+use Rattle.asm_select.specs.Asked.{IsAskedAs, IsAskedIf, IsAsked, AreChosen}
+use Rattle.asm_select.specs.Reached.{IsWordArg}
+use Rattle.asm_select.proofs.Suiting.{AreSuited}
 use Rattle.asm_select.proofs.Classing.{place_few}
-use Rattle.std.specs.List.{All}
+use Rattle.std.specs.List.{All, sum_by}
+use Rattle.lists.proofs.Alls.{all_weaker}
 use Rattle.std.proofs.lemmas.Bool.{lt-ltb}
 use Rattle.asm_select.proofs.Steps.{sizes-append}
 
@@ -284,6 +286,7 @@ guard_short most c k told code.GuardNonnullClass (a ∷ Class n ∷ []) h =
     omega (arith, sizes-append (puts xs) (Leave cc_is.Ne k ∷ []), total-puts xs, nonnull_class_short most (operand_of c a) (header_of c.table (Size n)))
 guard_short most c k told code.GuardNoOverflow args h = omega arith
 guard_short most c k told code.GuardOverflow args h = omega arith
+guard_short most c k told code.GuardNoException args h = omega arith
 guard_short most c k told _ args h = absurd h
 
 -- ---- jumps
@@ -384,7 +387,15 @@ call_short d = omega (arith, put_tight d (register 0))
 header_small : (t : Table) (s : ShapeOf) → TableServes t → header_of t s < 2 ^ 31
 header_small t s table = omega (arith, table.few, place_few s t.shapes)
 
-asked_short : Most → (c : Setting) (k : ℕ) (form : Access) (r : Option BoxId) (args : List Arg) (d : Descr) → TableServes c.table → All (IsWordArg c.table) args → IsAskedAs c k form r args d → total (access_code c k form r args d ++ call_if (is_host_call form) (result_place c r)) ≤ 32 * (1 + length args)
+-- the entry of a function is near
+abbrev pub IsNear : Arg → Type 0
+IsNear (Func f) = f < 2 ^ 19
+IsNear a = Unit {0}
+
+abbrev pub CallsNear : OptOp → Type 0
+CallsNear op = All IsNear (args_of op)
+
+asked_short : Most → (c : Setting) (k : ℕ) (form : Access) (r : Option BoxId) (args : List Arg) (d : Descr) → TableServes c.table → All IsNear args → IsAskedAs c k form r args d → total (access_code c k form r args d ++ call_if (is_host_call form) (result_place c r)) ≤ 32 * (1 + length args)
 asked_short most c k access.Structure (Some r) [] (descr.Size n) table w h =
     let k1 = header_of c.table (Size n) in
     omega (arith, total-append (new_code k1) (call_code (c.at r.number)), small_short (register 7) k1 (header_small c.table (Size n) table), call_short (c.at r.number))
@@ -400,23 +411,40 @@ asked_short most c k access.Call r (Func f ∷ args) (descr.Call row) table w h 
     omega (arith, total-append (function_code c k f args row) (call_code (result_place c r)), total-append (jump_code c2 args) asks, jump_short most c2 args h.0.few, small_short (register 10) row h.2, small_short (register 11) (entry_of (entry_number f)) (omega (arith, low)), call_short (result_place c r))
 asked_short most c k _ r args d table w h = absurd h
 
-plain_asked_short : Most → (c : Setting) (k : ℕ) (operation : OpCode) (o : Option Access) (r : Option BoxId) (args : List Arg) (d : Descr) (ops : List OptOp) → TableServes c.table → All (IsWordArg c.table) args → IsAskedIf c k o r args d → total (plain_code c k operation o r args d ops) ≤ 32 * (1 + length args)
+plain_asked_short : Most → (c : Setting) (k : ℕ) (operation : OpCode) (o : Option Access) (r : Option BoxId) (args : List Arg) (d : Descr) (ops : List OptOp) → TableServes c.table → All IsNear args → IsAskedIf c k o r args d → total (plain_code c k operation o r args d ops) ≤ 32 * (1 + length args)
 plain_asked_short most c k operation None r args d ops table w h = absurd h
 plain_asked_short most c k operation (Some form) r args d ops table w h = asked_short most c k form r args d table w h
 
-host_short : Most → (c : Setting) (k : ℕ) (told : Told) (op : OptOp) (ops : List OptOp) → TableServes c.table → HasWords c.table op → IsAsked c k op → sizes_of (code_of c k told op ops) + cond (has_stub op) 25 0 ≤ 32 * (1 + length (args_of op))
+host_short : Most → (c : Setting) (k : ℕ) (told : Told) (op : OptOp) (ops : List OptOp) → TableServes c.table → CallsNear op → IsAsked c k op → sizes_of (code_of c k told op ops) + cond (has_stub op) 25 0 ≤ 32 * (1 + length (args_of op))
 host_short most c k told (opt.Plain operation r args d) ops table w h = (let xs = plain_code c k operation (access_form operation) r args d ops in omega (arith, total-puts xs, plain_asked_short most c k operation (access_form operation) r args d ops table w h))
 host_short most c k told (opt.Guard operation args n snap) ops table w h = absurd h
 host_short most c k told (opt.Exit n snap) ops table w h = absurd h
 host_short most c k told (opt.Jump to args) ops table w h = absurd h
 host_short most c k told (opt.Finish value) ops table w h = absurd h
 
-one_short_op : Most → (c : Setting) (k : ℕ) (told : Told) (op : OptOp) (ops : List OptOp) → TableServes c.table → HasWords c.table op → IsHere c told op ⊎ IsAsked c k op → sizes_of (code_of c k told op ops) + cond (has_stub op) 25 0 ≤ 32 * (1 + length (args_of op))
+one_short_op : Most → (c : Setting) (k : ℕ) (told : Told) (op : OptOp) (ops : List OptOp) → TableServes c.table → CallsNear op → IsHere c told op ⊎ IsAsked c k op → sizes_of (code_of c k told op ops) + cond (has_stub op) 25 0 ≤ 32 * (1 + length (args_of op))
 one_short_op most c k told op ops table w (inl h) = op_short most c k told op ops h
 one_short_op most c k told op ops table w (inr h) = host_short most c k told op ops table w h
 
-pub chosen_are_short : Most → ChosenAreShort
-chosen_are_short most c to exit_of k told [] table h = omega arith
-chosen_are_short most c to exit_of k told (op ∷ ops) table h =
+pub suited_are_short : Most → (c : Setting) (to : ℕ → ℤ) (exit_of : ℕ → ℕ) (k : ℕ) (told : Told) (ops : List OptOp) → TableServes c.table → AreSuited CallsNear c k told ops → sizes_of (all_code c k told ops) + stub_sizes to exit_of k ops ≤ 32 * sum_by (λ (x : OptOp). 1 + length (args_of x)) ops
+suited_are_short most c to exit_of k told [] table h = omega arith
+suited_are_short most c to exit_of k told (op ∷ ops) table h =
     let rest = all_code c (k + 1) (told_by op ops) ops in
-    omega (arith, sizes-append (code_of c k told op ops) rest, one_short_op most c k told op ops table h.1 h.0, stub_least (has_stub op) (sizes_of (puts (stub_code (to k) (exit_of k)))) (stub_short most (to k) (exit_of k)), chosen_are_short most c to exit_of (k + 1) (told_by op ops) ops table h.2, sum_by-cons (λ (x : OptOp). 1 + length (args_of x)) op ops)
+    omega (arith, sizes-append (code_of c k told op ops) rest, one_short_op most c k told op ops table h.1 h.0, stub_least (has_stub op) (sizes_of (puts (stub_code (to k) (exit_of k)))) (stub_short most (to k) (exit_of k)), suited_are_short most c to exit_of (k + 1) (told_by op ops) ops table h.2, sum_by-cons (λ (x : OptOp). 1 + length (args_of x)) op ops)
+
+near_arg : (t : Table) (a : Arg) → IsWordArg t a → IsNear a
+near_arg t (Of b) h = tt
+near_arg t (Const w) h = tt
+near_arg t Null h = tt
+near_arg t (Class n) h = tt
+near_arg t (Func f) h = h
+near_arg t (Ptr n) h = tt
+
+chosen_suited : (c : Setting) (k : ℕ) (told : Told) (ops : List OptOp) → AreChosen c k told ops → AreSuited CallsNear c k told ops
+chosen_suited c k told [] h = tt
+chosen_suited c k told (op ∷ ops) h =
+    (h.0, all_weaker (IsWordArg c.table) IsNear (args_of op) (near_arg c.table) h.1, chosen_suited c (k + 1) (told_by op ops) ops h.2)
+
+pub chosen_are_short : Most → ChosenAreShort
+chosen_are_short most c to exit_of k told ops table h =
+    suited_are_short most c to exit_of k told ops table (chosen_suited c k told ops h)

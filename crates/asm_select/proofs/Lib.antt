@@ -30,6 +30,7 @@ pub mod Classed
 pub mod Follows
 pub mod Travels
 pub mod Lengths
+pub mod WordRows
 pub mod Rows
 pub mod Exiting
 pub mod Suiting
@@ -38,9 +39,13 @@ pub mod Started
 pub mod Examples
 pub mod Anys
 pub mod Passed
-pub mod Prebuilts
 pub mod Pushes
 pub mod Appends
 pub mod Needing
 pub mod Planned
 pub mod Selection
+pub mod Rekeying
+pub mod Fitting
+pub mod Storing
+pub mod Answering
+pub mod Preceding

@@ -63,8 +63,8 @@ distinct_others (x ∷ xs) d = (others x xs (λ i q e. d 0 (suc i) x q (omega ar
 pub distinct_differ : (at : Where) (args : List Arg) (targets : List Place) → AreDistinct targets → HasDistinctTargets (pairs_at at args targets)
 distinct_differ at args targets d = others_differ at args targets (distinct_others targets d)
 
-pub args_differ : (at : Where) (args : List Arg) → HasDistinctTargets (pairs_at at args arg_places)
-args_differ at args = others_differ at args arg_places (
+pub args_apart : AllOthers arg_places
+args_apart = (
   (in_other 7 6 (omega arith), (in_other 7 2 (omega arith), (in_other 7 1 (omega arith), (in_other 7 8 (omega arith), (in_other 7 9 (omega arith), tt))))),
   (
     (in_other 6 2 (omega arith), (in_other 6 1 (omega arith), (in_other 6 8 (omega arith), (in_other 6 9 (omega arith), tt)))),
@@ -77,6 +77,9 @@ args_differ at args = others_differ at args arg_places (
     ),
   ),
 )
+
+pub args_differ : (at : Where) (args : List Arg) → HasDistinctTargets (pairs_at at args arg_places)
+args_differ at args = others_differ at args arg_places args_apart
 
 -- the pairs of a setting are those of its boxes' places
 pub pair_same : (c : Setting) (target : Place) (a : Arg) → pair_of target (operand_of c a) ≡ pair_at c.at target a

@@ -20,7 +20,10 @@ use Rattle.trace_ops.specs.declared.trace.Descr.TheVariants as descr
 use Rattle.trace_ops.specs.declared.piece.PieceId.{PieceId}
 use Rattle.trace_ops.specs.declared.piece.OptOp.{OptOp}
 use Rattle.trace_ops.specs.declared.piece.OptOp.TheVariants as opt
-use Rattle.trace_ops.specs.Classes.{is_overflowing, is_plain}
+use Rattle.trace_ops.specs.declared.piece.Piece.{Piece}
+use Rattle.trace_ops.specs.declared.trace.TraceSet.{TraceSet}
+use Rattle.trace_ops.specs.Sound.{IsSound}
+use Rattle.trace_ops.specs.Classes.{is_guard, is_overflowing, is_plain}
 use Rattle.trace_ops.specs.Facts.{takes_of}
 use Rattle.trace_ops.specs.Fits.{FitArgs, IsWanted, IsOfKind, kind_stored, AreCompared, FitsDescr, HasVtable, FitsOperation}
 use Rattle.trace_ops.specs.InRange.{IsTableInRange, StandsOnce}
@@ -43,7 +46,7 @@ use Rattle.asm_select.specs.Reached.{HasWords}
 use Rattle.asm_select.specs.Ended.{has_unary, has_binary, AreGuarded, IsPlain, AreValued, IsPlainHere, IsGuardHere, AreMoved, IsAccess, IsHere}
 use Rattle.asm_select.specs.Asked.{IsAskedAs, IsAskedIf, IsAsked, AreChosen}
 use Rattle.asm_select.proofs.Tables.{tables_serve}
-use Rattle.asm_select.specs.Suited.{is_guard_here, KeepsItsGuard, SoundPiecesSuit}
+use Rattle.asm_select.specs.Suited.{SoundPiecesSuit}
 
 -- ---- arguments that have values
 
@@ -162,7 +165,7 @@ class_guard t operation (a ∷ Func b ∷ []) h f = absurd f.1
 class_guard t operation (a ∷ Ptr b ∷ []) h f = absurd f.1
 class_guard t operation (a ∷ b ∷ x ∷ more) h f = absurd f
 
-guard_suits : (t : Table) (operation : OpCode) (args : List Arg) → IsTrue (is_guard_here operation) → FitArgs t descr.No (takes_of operation) args → IsGuardHere operation args × AreGuarded operation args
+guard_suits : (t : Table) (operation : OpCode) (args : List Arg) → IsTrue (is_guard operation) → FitArgs t descr.No (takes_of operation) args → IsGuardHere operation args × AreGuarded operation args
 guard_suits t code.GuardTrue args h f = one_guard t code.GuardTrue want.Int args (int_value t descr.No) (λ a. tt) f
 guard_suits t code.GuardFalse args h f = one_guard t code.GuardFalse want.Int args (int_value t descr.No) (λ a. tt) f
 guard_suits t code.GuardNonnull args h f = one_guard t code.GuardNonnull want.Ref args (ref_value t descr.No) (λ a. tt) f
@@ -175,6 +178,7 @@ guard_suits t code.GuardClass args h f = class_guard t code.GuardClass args (λ 
 guard_suits t code.GuardNonnullClass args h f = class_guard t code.GuardNonnullClass args (λ a k v. v) f
 guard_suits t code.GuardNoOverflow args h f = (tt, no_args t args f)
 guard_suits t code.GuardOverflow args h f = (tt, no_args t args f)
+guard_suits t code.GuardNoException args h f = (tt, no_args t args f)
 guard_suits t _ args h f = absurd (cc)
 
 -- ---- overflow
@@ -254,10 +258,10 @@ length_suits t q k (Some r) (a ∷ []) _ f g e = absurd e
 
 -- ---- operations that call
 
-contains_at : (xs : List ShapeOf) (x : ShapeOf) → StandsOnce x xs → Contains xs x
+pub contains_at : (xs : List ShapeOf) (x : ShapeOf) → StandsOnce x xs → Contains xs x
 contains_at xs x h = (h.0, slice_get_within xs h.0 x h.1, get_or_from_slice_get xs h.0 x x h.1)
 
-some_within : {X : Type 0} (xs : List X) (n : ℕ) (P : X → Type 0) → IsSomeAnd (slice_get xs n) P → n < length xs
+pub some_within : {X : Type 0} (xs : List X) (n : ℕ) (P : X → Type 0) → IsSomeAnd (slice_get xs n) P → n < length xs
 some_within {X} xs n P h = which (slice_get xs n) refl h
   where
     which : (o : Option X) → slice_get xs n ≡ o → IsSomeAnd o P → n < length xs
@@ -395,32 +399,50 @@ plain_chosen c i code.PtrEq r args d o off mv h f = inl (plain_suits c.table cod
 plain_chosen c i code.PtrNe r args d o off mv h f = inl (plain_suits c.table code.PtrNe r args d refl f)
 plain_chosen c i _ r args d o off mv h f = absurd (cc)
 
-op_suits : (c : Setting) (i : ℕ) (told : Told) (op : OptOp) → IsTableInRange c.table → Offsets c.table → KeepsItsGuard op → HasItsCode op → FitsTable c.table op → (tests_overflow op ≡ true → told ≡ tell.Overflow) → ((to : PieceId) (args : List Arg) → op ≡ opt.Jump to args → AreMoved c args) → ((f : ℕ) (operation : OpCode) (r : Option BoxId) (args : List Arg) (d : Descr) → op ≡ opt.Plain operation r (Func f ∷ args) d → AreMoved (for_call c i args) args) → IsHere c told op ⊎ IsAsked c i op
-op_suits c i told (opt.Plain operation r args d) t off h code f o j mv = plain_chosen c i operation r args d t off (λ n more e. mv n operation r more d (ap (λ (l : List Arg). opt.Plain operation r l d) e)) code f
-op_suits c i told (opt.Guard operation args n snap) t off h code f o j mv = (let g = guard_suits c.table operation args h f in inl (g.0, g.1, o))
-op_suits c i told (opt.Exit n snap) t off h code f o j mv = inl tt
-op_suits c i told (opt.Jump to args) t off h code f o j mv = inl (j to args refl, all_values args f)
-op_suits c i told (opt.Finish value) t off h code f o j mv = inl (all_values (finished value) f)
+-- operations such as selection asks for, that have this beside
+abbrev pub AreSuited : (OptOp → Type 0) → Setting → ℕ → Told → List OptOp → Type 0
+AreSuited W c k told [] = Unit {0}
+AreSuited W c k told (op ∷ ops) = (IsHere c told op ⊎ IsAsked c k op) × W op × AreSuited W c (k + 1) (told_by op ops) ops
+
+op_suits : (c : Setting) (i : ℕ) (told : Told) (op : OptOp) → IsTableInRange c.table → Offsets c.table → HasItsCode op → FitsTable c.table op → (tests_overflow op ≡ true → told ≡ tell.Overflow) → ((to : PieceId) (args : List Arg) → op ≡ opt.Jump to args → AreMoved c args) → ((f : ℕ) (operation : OpCode) (r : Option BoxId) (args : List Arg) (d : Descr) → op ≡ opt.Plain operation r (Func f ∷ args) d → AreMoved (for_call c i args) args) → IsHere c told op ⊎ IsAsked c i op
+op_suits c i told (opt.Plain operation r args d) t off code f o j mv = plain_chosen c i operation r args d t off (λ n more e. mv n operation r more d (ap (λ (l : List Arg). opt.Plain operation r l d) e)) code f
+op_suits c i told (opt.Guard operation args n snap) t off code f o j mv = (let g = guard_suits c.table operation args code f in inl (g.0, g.1, o))
+op_suits c i told (opt.Exit n snap) t off code f o j mv = inl tt
+op_suits c i told (opt.Jump to args) t off code f o j mv = inl (j to args refl, all_values args f)
+op_suits c i told (opt.Finish value) t off code f o j mv = inl (all_values (finished value) f)
 
 true_some : (b : Bool) → Some b ≡ Some true → b ≡ true
 true_some b e = cc
 
-ops_suit : (c : Setting) (i : ℕ) (told : Told) (ops : List OptOp) → IsTableInRange c.table → Offsets c.table → All KeepsItsGuard ops → All HasItsCode ops → All (FitsTable c.table) ops → All (HasWords c.table) ops → (option_map tests_overflow (slice_get ops 0) ≡ Some true → told ≡ tell.Overflow) → ((n : ℕ) → option_map tests_overflow (slice_get ops (suc n)) ≡ Some true → option_map sets_overflow (slice_get ops n) ≡ Some true) → ((n : ℕ) (to : PieceId) (args : List Arg) → slice_get ops n ≡ Some (opt.Jump to args) → AreMoved c args) → ((n f : ℕ) (operation : OpCode) (r : Option BoxId) (args : List Arg) (d : Descr) → slice_get ops n ≡ Some (opt.Plain operation r (Func f ∷ args) d) → AreMoved (for_call c (i + n) args) args) → AreChosen c i told ops
-ops_suit c i told [] t off h k f w o p j mv = tt
-ops_suit c i told (op ∷ ops) t off h k f w o p j mv =
+ops_suit : (W : OptOp → Type 0) (c : Setting) (i : ℕ) (told : Told) (ops : List OptOp) → IsTableInRange c.table → Offsets c.table → All HasItsCode ops → All (FitsTable c.table) ops → All W ops → (option_map tests_overflow (slice_get ops 0) ≡ Some true → told ≡ tell.Overflow) → ((n : ℕ) → option_map tests_overflow (slice_get ops (suc n)) ≡ Some true → option_map sets_overflow (slice_get ops n) ≡ Some true) → ((n : ℕ) (to : PieceId) (args : List Arg) → slice_get ops n ≡ Some (opt.Jump to args) → AreMoved c args) → ((n f : ℕ) (operation : OpCode) (r : Option BoxId) (args : List Arg) (d : Descr) → slice_get ops n ≡ Some (opt.Plain operation r (Func f ∷ args) d) → AreMoved (for_call c (i + n) args) args) → AreSuited W c i told ops
+ops_suit W c i told [] t off k f w o p j mv = tt
+ops_suit W c i told (op ∷ ops) t off k f w o p j mv =
     let here : i + 0 ≡ i = omega arith in (
-      op_suits c i told op t off (h 0 op (omega arith)) (k 0 op (omega arith)) (f 0 op (omega arith)) (λ e. o (ap Some e)) (λ to args e. j 0 to args (ap Some e))
+      op_suits c i told op t off (k 0 op (omega arith)) (f 0 op (omega arith)) (λ e. o (ap Some e)) (λ to args e. j 0 to args (ap Some e))
           (λ n operation r args d e. subst (λ (x : ℕ). AreMoved (for_call c x args) args) here (mv 0 n operation r args d (ap Some e))),
       w 0 op (omega arith),
-      ops_suit c (i + 1) (told_by op ops) ops t off (λ n x lt. h (suc n) x (omega (arith, lt))) (λ n x lt. k (suc n) x (omega (arith, lt))) (λ n x lt. f (suc n) x (omega (arith, lt))) (λ n x lt. w (suc n) x (omega (arith, lt)))
+      ops_suit W c (i + 1) (told_by op ops) ops t off (λ n x lt. k (suc n) x (omega (arith, lt))) (λ n x lt. f (suc n) x (omega (arith, lt))) (λ n x lt. w (suc n) x (omega (arith, lt)))
           (λ e. op_tells c.table op ops (true_some (sets_overflow op) (p 0 e)) (f 0 op (omega arith)))
           (λ n e. p (suc n) e) (λ n to args e. j (suc n) to args e)
           (λ n x operation r args d e. let z : i + suc n ≡ i + 1 + n = omega arith in subst (λ (y : ℕ). AreMoved (for_call c y args) args) z (mv (suc n) x operation r args d e)),
     )
 
-pub pieces_suit : SoundPiecesSuit
-pieces_suit set label_of piece c k sound same t h w j mv =
-    ops_suit c k tell.Nothing piece.ops t (tables_serve c.table t).1 h sound.formed.codes_in_place (subst (λ (x : Table). All (FitsTable x) piece.ops) (sym same) sound.formed.operations_fit) w
+-- a piece whose operations have this beside
+pub piece_suits : (W : OptOp → Type 0) (set : TraceSet) (label_of : PieceId → Option (List BoxId)) (piece : Piece) (c : Setting) (k : ℕ)
+    → IsSound set label_of piece → c.table ≡ set.table → IsTableInRange c.table → All W piece.ops
+    → ((i : ℕ) (to : PieceId) (args : List Arg) → slice_get piece.ops i ≡ Some (opt.Jump to args) → AreMoved c args)
+    → ((i f : ℕ) (operation : OpCode) (r : Option BoxId) (args : List Arg) (d : Descr) → slice_get piece.ops i ≡ Some (opt.Plain operation r (Func f ∷ args) d) → AreMoved (for_call c (k + i) args) args)
+    → AreSuited W c k tell.Nothing piece.ops
+piece_suits W set label_of piece c k sound same t w j mv =
+    ops_suit W c k tell.Nothing piece.ops t (tables_serve c.table t).1 sound.formed.codes_in_place (subst (λ (x : Table). All (FitsTable x) piece.ops) (sym same) sound.formed.operations_fit) w
     (λ e. (let q = sound.formed.overflow_is_set 0 e in absurd (omega (arith, q.1))))
     (λ n e. (let q = sound.formed.overflow_is_set (suc n) e in let n2 : q.0 ≡ n = omega (arith, q.1) in ap (λ (z : ℕ). option_map sets_overflow (slice_get piece.ops z)) (sym n2) ∙ q.2))
     j mv
+
+suited_chosen : (c : Setting) (k : ℕ) (told : Told) (ops : List OptOp) → AreSuited (HasWords c.table) c k told ops → AreChosen c k told ops
+suited_chosen c k told [] h = tt
+suited_chosen c k told (op ∷ ops) h = (h.0, h.1, suited_chosen c (k + 1) (told_by op ops) ops h.2)
+
+pub pieces_suit : SoundPiecesSuit
+pieces_suit set label_of piece c k sound same t w j mv =
+    suited_chosen c k tell.Nothing piece.ops (piece_suits (HasWords c.table) set label_of piece c k sound same t w j mv)

@@ -194,7 +194,7 @@ abbrev pub IsPlain : Table → OpCode → Option Access → Option BoxId → Lis
 IsPlain t operation None r args d = IsPlainHere operation r args
 IsPlain t operation (Some form) r args d = IsAccess t form r args d
 
--- a guard on words, references, overflow or classes
+-- a guard on words, references, overflow or classes; no call raises, so that a guard on an exception passes
 abbrev pub IsGuardHere : OpCode → List Arg → Type 0
 IsGuardHere code.GuardTrue (a ∷ []) = Unit {0}
 IsGuardHere code.GuardFalse (a ∷ []) = Unit {0}
@@ -205,6 +205,7 @@ IsGuardHere code.GuardClass (a ∷ Class n ∷ []) = has_value a ≡ true
 IsGuardHere code.GuardNonnullClass (a ∷ Class n ∷ []) = has_value a ≡ true
 IsGuardHere code.GuardNoOverflow args = Unit {0}
 IsGuardHere code.GuardOverflow args = Unit {0}
+IsGuardHere code.GuardNoException args = Unit {0}
 IsGuardHere operation args = ⊥
 
 -- a class has no value

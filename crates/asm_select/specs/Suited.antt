@@ -1,8 +1,7 @@
 -- Sound pieces are such as selection asks for.
-use Rattle.std.specs.Prelude.{◌≡◌, ◌≢◌, ℕ, ◌+◌, ◌^◌, ◌<◌, Bool, true, false, List, ◌∷◌, length, map, slice_get, Option, Some, None, IsTrue}
+use Rattle.std.specs.Prelude.{◌≡◌, ◌≢◌, ℕ, ◌+◌, ◌^◌, ◌<◌, List, ◌∷◌, length, map, slice_get, Option, Some, None}
 use Rattle.std.specs.List.{All}
 use Rattle.trace_ops.specs.declared.code.OpCode.{OpCode}
-use Rattle.trace_ops.specs.declared.code.OpCode.TheVariants as code
 use Rattle.trace_ops.specs.declared.trace.BoxId.{BoxId}
 use Rattle.trace_ops.specs.declared.trace.Arg.{Arg}
 use Rattle.trace_ops.specs.declared.trace.Arg.TheVariants.{Func}
@@ -36,28 +35,11 @@ use Rattle.asm_select.specs.Reached.{AreKept, Uses, Holds, HasWords, PrebuiltsSt
 use Rattle.asm_select.specs.Ended.{AreMoved, TableServes}
 use Rattle.asm_select.specs.Asked.{AreChosen}
 
-abbrev pub is_guard_here : OpCode → Bool
-is_guard_here code.GuardTrue = true
-is_guard_here code.GuardFalse = true
-is_guard_here code.GuardValue = true
-is_guard_here code.GuardNonnull = true
-is_guard_here code.GuardIsnull = true
-is_guard_here code.GuardClass = true
-is_guard_here code.GuardNonnullClass = true
-is_guard_here code.GuardNoOverflow = true
-is_guard_here code.GuardOverflow = true
-is_guard_here operation = false
-
--- no guard on an exception
-abbrev pub KeepsItsGuard : OptOp → Type 0
-KeepsItsGuard (opt.Guard operation args n snap) = IsTrue (is_guard_here operation)
-KeepsItsGuard op = Unit {0}
-
 -- Sound pieces are such as selection asks for, where their moves are: operation k is the first.
 abbrev pub SoundPiecesSuit : Type 0
 SoundPiecesSuit =
     (set : TraceSet) (label_of : PieceId → Option (List BoxId)) (piece : Piece) (c : Setting) (k : ℕ)
-    → IsSound set label_of piece → c.table ≡ set.table → IsTableInRange c.table → All KeepsItsGuard piece.ops → All (HasWords c.table) piece.ops
+    → IsSound set label_of piece → c.table ≡ set.table → IsTableInRange c.table → All (HasWords c.table) piece.ops
     → ((i : ℕ) (to : PieceId) (args : List Arg) → slice_get piece.ops i ≡ Some (opt.Jump to args) → AreMoved c args)
     → ((i f : ℕ) (operation : OpCode) (r : Option BoxId) (args : List Arg) (d : Descr) → slice_get piece.ops i ≡ Some (opt.Plain operation r (Func f ∷ args) d) → AreMoved (for_call c (k + i) args) args)
     → AreChosen c k tell.Nothing piece.ops

@@ -6,19 +6,20 @@ ghost use Rattle.trace_ops.specs.declared.trace.Arg.TheVariants as arg;
 ghost use Rattle.asm_select.specs.Chosen.{operand_of, result_place};
 ghost use Rattle.asm_select.specs.Drafting.{setting};
 
+use crate::known_table::KnownTable;
 use crate::operand::Operand;
-use crate::table_numbers::{address_in, function_entry, header_of};
+use crate::table_numbers::function_entry;
 use parallel_move::Move;
 use std::alloc::AllocError;
 use std::marker::Model;
 use target_base::{Place, Reg};
-use trace_ops::{Arg, BoxId, List, ShapeOf, Table};
+use trace_ops::{Arg, BoxId, List, ShapeOf};
 
 /// The table; the place of each box by number; the places of the label that the jump goes to; and the moves of each
 /// operation.
 #[derive(Drop)]
 pub struct Context<'a> {
-    pub table: &'a Table,
+    pub table: &'a KnownTable<'a>,
     pub at: &'a [Place],
     pub to: &'a [Place],
     pub plan: &'a [List<Move>],
@@ -60,14 +61,14 @@ impl<'a> Context<'a> {
     fn class(&self, n: u32) -> Result<Operand, AllocError>
         ensures { IfOk result (λ o. o ≡ operand_of (setting self.now) (arg.Class n)) }
     {
-        let number = header_of(self.table, ShapeOf::Size(n))?;
+        let number = self.table.header_of(ShapeOf::Size(n))?;
         Ok(Operand::Imm(i64::from(number)))
     }
 
     fn prebuilt(&self, k: u32) -> Result<Operand, AllocError>
         ensures { IfOk result (λ o. o ≡ operand_of (setting self.now) (arg.Ptr k)) }
     {
-        let address = address_in(self.table, k)?;
+        let address = self.table.address_in(k)?;
         Ok(Operand::Imm(address))
     }
 

@@ -15,7 +15,6 @@ use crate::codes::{push_compare, push_test};
 use crate::context::Context;
 use crate::plain::push_plain;
 use crate::selected::Selected;
-use crate::table_numbers::header_of;
 use crate::told::{Told, opposite, tells};
 use linear_scan::Live;
 use std::alloc::{AllocError, Global};
@@ -128,7 +127,7 @@ impl Draft {
         ensures { OnOk result (self.new ≡ with_leave cc_is.Ne k (with_instrs (class_code (operand_of (setting c.now) a) (header_of c.now.table (Size n))) self.old)) }
     {
         let o = c.operand(a)?;
-        let header = header_of(c.table, ShapeOf::Size(n))?;
+        let header = c.table.header_of(ShapeOf::Size(n))?;
         push_class(&mut self.instrs, o, header)?;
         self.leave(Cc::Ne, k)
     }
@@ -137,7 +136,7 @@ impl Draft {
         ensures { OnOk result (self.new ≡ with_leave cc_is.Ne k (with_instrs (nonnull_class_code (operand_of (setting c.now) a) (header_of c.now.table (Size n))) self.old)) }
     {
         let o = c.operand(a)?;
-        let header = header_of(c.table, ShapeOf::Size(n))?;
+        let header = c.table.header_of(ShapeOf::Size(n))?;
         push_nonnull_class(&mut self.instrs, o, header)?;
         self.leave(Cc::Ne, k)
     }

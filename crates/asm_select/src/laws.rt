@@ -4,12 +4,15 @@
 ghost use Rattle.asm_select.specs.Given.{PlacesServe, TargetsDiffer, LabelsServe};
 ghost use Rattle.asm_select.specs.Ended.{CodeFollows};
 ghost use Rattle.asm_select.specs.Asked.{CallsFollow, AllocationsLeave, PieceComes};
+ghost use Rattle.asm_select.specs.Answering.{ArgumentsAreRead, EventsAreShown, AnswersAreTaken, AnswersLeave};
 ghost use Rattle.asm_select.specs.Exited.{StubExits, JumpsEnter, PieceLands, StretchesGoOn, LabelHolds, LabelStands, JumpBegins, BridgeBegins, StartFits};
 ghost use Rattle.asm_select.specs.Suited.{SoundPiecesSuit, TablesServe, TableNumbersFit, PrebuiltsStayPut, ObjectResultHolds, ObjectStoreHolds};
+ghost use Rattle.asm_select.specs.Fitting.{SelectedFits};
 ghost use Rattle.asm_select.specs.Laid.{ChosenHaveRows, ExitsHaveRows, ChosenAreShort, SlotsStand, SlotsAreWhole};
 
 use arena_objects::{
-    addresses_are_apart, allocations_stand, bytes_are_taken, loads_find, spots_lie,
+    addresses_are_apart, allocations_stand, bytes_are_taken, loads_find, objects_are_read_back,
+    prebuilts_stand, spots_lie, walk_finds,
 };
 use linear_scan::boxes_live;
 use trace_ops::shifts_multiply;
@@ -32,6 +35,14 @@ pub fn labels_serve()
 pub fn sound_pieces_suit()
     ensures { SoundPiecesSuit }
 {}
+
+/// What [`crate::select`] gives for a sound piece is such as the laws below ask for, whatever the first operation's key is,
+/// where the table is in range and constants are words.
+pub fn selected_fits()
+    ensures { SelectedFits }
+{
+    boxes_live();
+}
 
 /// Header numbers and addresses of a table in range fit instructions, and prebuilt objects stay where they are.
 pub fn tables_fit()
@@ -68,6 +79,24 @@ pub fn allocations_leave()
 {
     allocations_stand();
     bytes_are_taken();
+}
+
+/// At a call of a function the host reads the values of its arguments and what it is shown; the operation goes on by the first answer that is left,
+/// where that fits; and where enough bytes are left, the host's writes of that answer leave what the code goes on from.
+pub fn answers_leave()
+    ensures read { ArgumentsAreRead }
+    ensures shown { EventsAreShown }
+    ensures taken { AnswersAreTaken }
+    ensures leave { AnswersLeave }
+{
+    shifts_multiply();
+    addresses_are_apart();
+    loads_find();
+    spots_lie();
+    allocations_stand();
+    walk_finds();
+    objects_are_read_back();
+    prebuilts_stand();
 }
 
 /// The code of a piece comes straight to where the piece is left, or from call to call of the host.

@@ -23,7 +23,7 @@ use crate::context::Context;
 use crate::form::{Access, access_form, binary_form, unary_form};
 use crate::lone::is_lone;
 use crate::moves::push;
-use crate::table_numbers::{field_offset, function_entry, header_of};
+use crate::table_numbers::function_entry;
 use linear_scan::Live;
 use std::alloc::AllocError;
 use target_base::{Place, Reg};
@@ -50,7 +50,7 @@ fn push_get_field(
     ensures { OnOk result (out.new.items ≡ out.old.items ++ read_code ((setting c.now).at r.number) (operand_of (setting c.now) a) (spot_offset c.now.table (spot.Field f))) }
 {
     let base = c.operand(a)?;
-    let offset = field_offset(c.table, f)?;
+    let offset = c.table.field_offset(f)?;
     push_read(out, c.place(r), base, offset)
 }
 
@@ -65,7 +65,7 @@ fn push_set_field(
 {
     let base = c.operand(a)?;
     let value = c.operand(b)?;
-    let offset = field_offset(c.table, f)?;
+    let offset = c.table.field_offset(f)?;
     push_write(out, base, offset, value)
 }
 
@@ -116,7 +116,7 @@ fn push_length(
 fn push_structure(out: &mut Vec<Instr>, c: &Context, r: BoxId, n: u32) -> Result<(), AllocError>
     ensures { OnOk result (out.new.items ≡ out.old.items ++ new_code (header_of c.now.table (Size n))) }
 {
-    let header = header_of(c.table, ShapeOf::Size(n))?;
+    let header = c.table.header_of(ShapeOf::Size(n))?;
     push_new(out, header)
 }
 
@@ -124,7 +124,7 @@ fn push_array(out: &mut Vec<Instr>, c: &Context, r: BoxId, a: Arg, x: u32) -> Re
     ensures { OnOk result (out.new.items ≡ out.old.items ++ new_array_code (header_of c.now.table (Array x)) (operand_of (setting c.now) a)) }
 {
     let many = c.operand(a)?;
-    let header = header_of(c.table, ShapeOf::Array(x))?;
+    let header = c.table.header_of(ShapeOf::Array(x))?;
     push_new_array(out, header, many)
 }
 

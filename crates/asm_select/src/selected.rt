@@ -4,16 +4,18 @@
 ghost use Rattle.std.specs.Prelude.{◌≡◌, ◌+◌, ◌<◌, ◌^◌, length, IfOk};
 ghost use Rattle.asm_select.specs.Drafting.{setting};
 ghost use Rattle.asm_select.specs.Selecting.{CanSelect, AllTell, IsCodeOf, IsSelected};
+ghost use Rattle.asm_select.specs.Fitting.{IsShort};
 
 use crate::context::Context;
 use crate::draft::Draft;
+use crate::known_table::KnownTable;
 use crate::plan::plan_moves;
 use crate::told::{Told, told_by};
 use linear_scan::{Live, Places, boxes_live, numbered_boxes_are_defined, ranges};
 use std::alloc::{AllocError, Global};
 use target_base::Place;
 use trace_ops::{List, OptOp, Piece, TraceSet};
-use x64_encode::Instr;
+use x64_encode::{Instr, spellings_are_short};
 
 /// Instructions; the first instruction of each operation; and (instruction, operation) of each jump whose target is
 /// still to be set.
@@ -43,7 +45,8 @@ fn choose(alloc: Global, c: &Context, lives: &[Live], ops: &[OptOp]) -> Result<S
 /// The instructions of a sound piece of a set, over the places that [`linear_scan::allocate`] gave for it. `to` has the
 /// places of the label to which its jump goes, and is empty without a jump: they are distinct, registers for values or
 /// frame words from 16 on, and these and those of `places` are together at most 1,048,320. A finish is a jump to its
-/// exit's stub. Takes time linear in the piece, where a look-up in the table counts as one.
+/// exit's stub. With the stubs of its exits, a piece has at most 32 bytes for each unit of its size. Takes time linear in
+/// the piece and in the table.
 pub fn select(
     alloc: Global,
     set: &TraceSet,
@@ -52,16 +55,19 @@ pub fn select(
     to: &[Place],
 ) -> Result<Selected, AllocError>
     requires { CanSelect set.now piece.now places.now to.now }
-    ensures { IfOk result (λ s. IsSelected set.now piece.now places.now to.now s) }
+    ensures code { IfOk result (λ s. IsSelected set.now piece.now places.now to.now s) }
+    ensures short { IfOk result (λ s. IsShort set.now piece.now s) }
 {
     numbered_boxes_are_defined();
     boxes_live();
+    spellings_are_short();
     let at = places.at.items();
     let ops = piece.ops.items();
     let lives = ranges(alloc, piece)?;
     let plan = plan_moves(alloc, at, to, ops)?;
+    let table = KnownTable::new(alloc, &set.table)?;
     let context = Context {
-        table: &set.table,
+        table: &table,
         at,
         to,
         plan: &plan,

@@ -24,7 +24,7 @@ use Rattle.code_layout.specs.Leading.{way, led_bytes, jumps_at}
 use Rattle.code_layout.specs.Emitting.{total_size, emitted, noted, listed}
 use Rattle.code_layout.specs.Laws.{SlotsAreEmitted, JumpsAreNoted, SizesAreTold}
 use Rattle.bridge_patch.specs.declared.plan.Plan.{Plan}
-use Rattle.bridge_patch.specs.Fitting.{Fits}
+use Rattle.asm_select.specs.Fitting.{Fits}
 use Rattle.bridge_patch.specs.Pieces.{Placed, body_of, start_of, stubs_of, stub_of, end_of, exits_in, spelled, stubs_from, bytes_in, all_bytes, AreLaid, label_places, loop_front, IsChosen, Leads, AllLead, place_among, rows_from, displacement_of, rows_of, all_rows}
 use Rattle.bridge_patch.specs.Planning.{IsPlan, count_of, jump_count, target_of, targets_from, laid_bytes}
 use Rattle.bridge_patch.specs.declared.image.PieceHere.{PieceHere}

@@ -31,7 +31,7 @@ use Rattle.asm_select.specs.Selecting.{AreTargets, CanSelect, IsSelected}
 use Rattle.code_layout.specs.Emitting.{AllHaveRows, KeysBelow, total_size}
 use Rattle.code_layout.specs.Chosen.{ChosenJumps}
 use Rattle.code_layout.specs.Laws.{SlotsHaveRows}
-use Rattle.bridge_patch.specs.Fitting.{bytes_in, with_key, Fits, SelectedFits, SelectedIsShort}
+use Rattle.asm_select.specs.Fitting.{bytes_in, with_key, Fits, SelectedFits, IsShort}
 use Rattle.bridge_patch.specs.Pieces.{exits_in, label_places, words_from}
 use Rattle.bridge_patch.specs.Planning.{CanPlan, CanPlace, IsFitted, count_of, jump_count}
 use Rattle.bridge_patch.proofs.Labels.{words_long, words_distinct, words_few, words_targets}
@@ -119,9 +119,9 @@ same_key ((m, k) ∷ js) =
     let n : 0 + k ≡ k = omega arith in
     ap (λ (i : ℕ). (m, i) ∷ map (with_key 0) js) n ∙ ap (λ (l : List (ℕ × ℕ)). (m, k) ∷ l) (same_key js)
 
-pub fitted : SelectedFits → SelectedIsShort → ChosenHaveRows → SlotsHaveRows → ChosenJumps → (set : TraceSet) (piece : Piece) (registers : ℕ) (places : Places) (s : Selected)
-    → CanPlan set piece registers → Allocated piece registers (label_places (length piece.label)) places → IsSelected set piece places (label_places (jump_count piece.ops)) s → IsFitted set piece registers places s
-fitted fits short have emitted jumps set piece registers places s h a sel =
+pub fitted : SelectedFits → ChosenHaveRows → SlotsHaveRows → ChosenJumps → (set : TraceSet) (piece : Piece) (registers : ℕ) (places : Places) (s : Selected)
+    → CanPlan set piece registers → Allocated piece registers (label_places (length piece.label)) places → IsSelected set piece places (label_places (jump_count piece.ops)) s → IsShort set piece s → IsFitted set piece registers places s
+fitted fits have emitted jumps set piece registers places s h a sel short =
     let can = can_select set piece registers places h a in
     let f = fits set piece places (label_places (jump_count piece.ops)) 0 s can h.table h.words sel in
     let rows = emitted (all_code f.c 0 tell.Nothing piece.ops) (have unset f.c 0 tell.Nothing piece.ops f.serves (λ k. zero_near) f.hold f.chosen) in record {
@@ -134,7 +134,7 @@ fitted fits short have emitted jumps set piece registers places s h a sel =
           let same : s.jumps ≡ jumps_from 0 (all_code f.c 0 tell.Nothing piece.ops) = sym (same_key s.jumps) ∙ f.jumps in
           let n : 0 + length piece.ops ≡ length piece.ops = omega arith in
           subst (λ (k : ℕ). KeysBelow k s.jumps) n (subst (KeysBelow (0 + length piece.ops)) (sym same) ((jumps f.c 0 tell.Nothing piece.ops f.chosen).below 0));
-      short = omega (arith, short set piece places (label_places (jump_count piece.ops)) s can sel h.table no_way no_exit, total_bytes s.instrs, stubs_are 0 piece.ops);
+      short = omega (arith, short h.table no_way no_exit, total_bytes s.instrs, stubs_are 0 piece.ops);
     }
 
 pub instrs_few : ((i : Instr) → 1 ≤ length (spelling i)) → (is : List Instr) → length is ≤ total_size is

@@ -1,4 +1,3 @@
-pub mod Fitting
 pub mod Pieces
 pub mod Image
 pub mod Planning

@@ -20,7 +20,7 @@ use Rattle.resume_numbering.specs.Numbered.{IsNumbered}
 use Rattle.asm_select.specs.Laid.{has_stub}
 use Rattle.asm_select.specs.Selecting.{CanSelect, IsSelected}
 use Rattle.bridge_patch.specs.Image.{KeepsItsGuard}
-use Rattle.bridge_patch.specs.Fitting.{Fits}
+use Rattle.asm_select.specs.Fitting.{Fits}
 use Rattle.code_layout.specs.Emitting.{AllHaveRows, KeysBelow, total_size, emitted}
 use Rattle.linear_scan.specs.declared.places.Places.{Places}
 use Rattle.asm_select.specs.declared.selected.Selected.{Selected}

@@ -2,7 +2,6 @@
 #![tactic(auto)]
 
 mod flat;
-mod given;
 mod image;
 mod laying;
 mod layout;

@@ -5,11 +5,11 @@ ghost use Rattle.std.specs.Prelude.{◌≡◌, ℕ, ◌+◌, ◌-◌, ◌*◌, �
 ghost use Rattle.trace_ops.specs.Pieces.{size_of, defined_by, jump_args};
 ghost use Rattle.linear_scan.specs.Placing.{Allocated};
 ghost use Rattle.asm_select.specs.Selecting.{CanSelect, IsSelected};
+ghost use Rattle.asm_select.specs.Fitting.{IsShort};
 ghost use Rattle.bridge_patch.specs.Pieces.{words_from, label_places, exits_in, loop_front};
 ghost use Rattle.bridge_patch.specs.Planning.{CanPlan, IsPlan, jump_count, count_of, CanPlace, IsFitted};
 
-use crate::given::{selected_fits, selected_is_short};
-use asm_select::{Selected, chosen_have_rows, select};
+use asm_select::{Selected, chosen_have_rows, select, selected_fits};
 use code_layout::{chosen_jumps, size_of_all, slots_are_emitted};
 use linear_scan::{Places, allocate, numbered_boxes_are_defined};
 use std::alloc::{AllocError, Global};
@@ -92,7 +92,8 @@ fn choose(
     places: &Places,
 ) -> Result<Selected, AllocError>
     requires { CanSelect set.now piece.now places.now (label_places (jump_count piece.now.ops)) }
-    ensures { IfOk result (λ s. IsSelected set.now piece.now places.now (label_places (jump_count piece.now.ops)) s) }
+    ensures code { IfOk result (λ s. IsSelected set.now piece.now places.now (label_places (jump_count piece.now.ops)) s) }
+    ensures short { IfOk result (λ s. IsShort set.now piece.now s) }
 {
     let to = label_places(alloc, jump_count(piece.ops.items()))?;
     select(alloc, set, piece, places, to.items())
@@ -109,7 +110,6 @@ fn fitted(
     ensures { IfOk result (λ r. IsFitted set.now piece.now registers r.0 r.1) }
 {
     selected_fits();
-    selected_is_short();
     chosen_have_rows();
     slots_are_emitted();
     chosen_jumps();

@@ -2,6 +2,7 @@ use Rattle.std.proofs.Common.{sym, subst}
 use Rattle.asm_select.specs.Selecting.{AllTell}
 use Rattle.asm_select.proofs.Needing.{all_tell}
 use Rattle.asm_select.proofs.Selection.{if_ok, selected}
+use Rattle.asm_select.proofs.Fitting.{selected_is_short}
 use Rattle.asm_select.proofs.selected.select.Goals as goal
 
 pub ranges-requires-clause-defined : goal.ranges-requires-clause-defined
@@ -18,6 +19,11 @@ choose-requires-clause-tell c =
 
 pub returns : goal.returns
 returns c =
+    let code =
     if_ok c.choose.result _ _
-    (λ s h. selected c.args.set.now c.args.piece.now c.args.places.now c.args.to.now c.items-at.result.now c.items-ops.result.now c.in_ok-plan.plan.items c.deref.result.now s c.items-at.ensures c.items-ops.ensures c.deref.ensures.value c.in_ok-plan.ensures h)
-    c.choose.ensures
+    (λ s h. selected c.args.set.now c.args.piece.now c.args.places.now c.args.to.now c.in_ok-table.table c.items-at.result.now c.items-ops.result.now c.in_ok-plan.plan.items c.deref.result.now s c.in_ok-table.ensures c.items-at.ensures c.items-ops.ensures c.deref.ensures.value c.in_ok-plan.ensures h)
+    c.choose.ensures in
+    record {
+      code = code;
+      short = if_ok c.choose.result _ _ (λ s h. selected_is_short c.spellings_are_short.ensures.most c.args.set.now c.args.piece.now c.args.places.now c.args.to.now s c.requires h) code;
+    }

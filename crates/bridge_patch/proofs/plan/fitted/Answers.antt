@@ -10,4 +10,4 @@ choose-requires c = can_select c.args.set.now c.args.piece.now c.args.registers 
 
 pub returns : goal.returns
 returns c =
-    fitted c.selected_fits.ensures c.selected_is_short.ensures c.chosen_have_rows.ensures c.slots_are_emitted.ensures.rows c.chosen_jumps.ensures c.args.set.now c.args.piece.now c.args.registers c.in_ok-places.places c.in_ok-selected.selected c.requires (c.in_ok-places.ensures {u = tt}) (c.in_ok-selected.ensures {u = tt})
+    fitted c.selected_fits.ensures c.chosen_have_rows.ensures c.slots_are_emitted.ensures.rows c.chosen_jumps.ensures c.args.set.now c.args.piece.now c.args.registers c.in_ok-places.places c.in_ok-selected.selected c.requires (c.in_ok-places.ensures {u = tt}) (c.in_ok-selected.ensures {u = tt}).code (c.in_ok-selected.ensures {u = tt}).short

@@ -57,8 +57,3 @@ bytes_in is = sum_by (λ (i : Instr). length (spelling i)) is
 abbrev pub IsShort : TraceSet → Piece → Selected → Type 0
 IsShort set piece s =
     IsTableInRange set.table → (to : ℕ → ℤ) (exit_of : ℕ → ℕ) → bytes_in s.instrs + stub_sizes to exit_of 0 piece.ops ≤ 32 * size_of piece
-
-abbrev pub SelectedIsShort : Type 0
-SelectedIsShort =
-    (set : TraceSet) (piece : Piece) (places : Places) (to : List Place) (s : Selected)
-    → CanSelect set piece places to → IsSelected set piece places to s → IsShort set piece s

@@ -1,0 +1,10 @@
+pub mod Lists
+pub mod Labels
+pub mod Plans
+pub mod Stubs
+pub mod Displaced
+pub mod Planned
+pub mod Targets
+pub mod Building
+pub mod LayingAll
+pub mod Compiling

@@ -1,0 +1,4 @@
+pub mod Pieces
+pub mod Image
+pub mod Planning
+pub mod Laid

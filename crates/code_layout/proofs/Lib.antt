@@ -1,0 +1,4 @@
+pub mod Emitted
+pub mod Patching
+pub mod Standing
+pub mod Choosing

@@ -1,0 +1,4 @@
+pub mod Leading
+pub mod Emitting
+pub mod Laws
+pub mod Chosen

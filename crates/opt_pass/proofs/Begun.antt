@@ -341,6 +341,7 @@ stands_start laws t inputs to target e vs w us u can a = record {
     overflow = λ q. absurd (false_true q);
     known = λ k value q. absurd (none_some q);
     passed = λ k value q. absurd (none_some q);
+    bounds = λ b i q. absurd (none_some q);
     guards = refl;
     numbered = tt;
   };

@@ -97,6 +97,7 @@ stands_worlds t o r p h ops checked mapped w u a over = record {
   overflow = over;
   known = λ k value e. h.known k value e;
   passed = h.passed;
+  bounds = λ d i e. h.bounds d i e;
   guards = h.guards;
   numbered = h.numbered;
 }
@@ -131,6 +132,7 @@ stands_bound laws t o r p h b x y m kind = record {
   overflow = h.overflow;
   known = λ key value e. let k = h.known key value e in (k.0, all_values-extends (value_in p.boxes) g more (args_in key) k.0 k.1, k.2, k.3, arg_value-extends (value_in p.boxes) g more value k.2 k.4);
   passed = λ key value e. let k = h.passed key value e in (k.0, all_values-extends (value_in p.boxes) g more (args_in key) k.0 k.1, k.2);
+  bounds = λ d i e. let k = h.bounds d i e in (k.0, more d (v.Int k.0) k.1, k.2);
   guards = h.guards;
   numbered = h.numbered;
 }

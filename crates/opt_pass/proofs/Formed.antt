@@ -32,6 +32,7 @@ use Rattle.opt_pass.specs.declared.state.Pass.{Pass}
 use Rattle.opt_pass.specs.Laws.{Laws}
 use Rattle.opt_pass.specs.Tables.{Names, name_in, with_name}
 use Rattle.opt_pass.specs.Words.{IsFew}
+use Rattle.opt_pass.specs.Bounding.{Bounds}
 use Rattle.opt_pass.specs.State.{next_box, with_giving, with_done, with_guard, with_exit, with_jump, with_body, with_finish, named_as, standing_for, skipped}
 use Rattle.opt_pass.specs.Forming.{IsDefined, IsArg, IsNamed, IsOpFormed, AreFormed, defined_in, Forms}
 use Rattle.opt_pass.proofs.Binding.{box_decides}
@@ -159,6 +160,9 @@ module _ (laws : Laws) (set : TraceSet) (label : List BoxId) (o : Pass) (h : For
 
   pub forms_noted : (known : List (Key × Arg)) (operation : OpCode) (args : List Arg) (value : Arg) → IsFew args → Notes o.known known operation args value → IsArg set.table (defined_in label o) (gives_of operation) value → Forms set label (record o { known = known })
   forms_noted known operation args value few notes k = record { ops = h.ops; next = h.next; names = h.names; forward = h.forward; known = known_noted laws (λ c xs x. IsArg set.table (defined_in label o) (gives_of c) x) o.known known operation args value few notes k h.known; bridges = h.bridges; at_end = h.at_end }
+
+  pub forms_limited : (bounds : Bounds) → Forms set label (record o { bounds = bounds })
+  forms_limited bounds = record { ops = h.ops; next = h.next; names = h.names; forward = h.forward; known = h.known; bridges = h.bridges; at_end = h.at_end }
 
   pub forms_passed : (passed : List (Key × Arg)) → Forms set label (record o { passed = passed })
   forms_passed passed = record { ops = h.ops; next = h.next; names = h.names; forward = h.forward; known = h.known; bridges = h.bridges; at_end = h.at_end }

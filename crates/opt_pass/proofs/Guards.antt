@@ -80,6 +80,7 @@ stands_skipped t o r p h = record {
   overflow = h.overflow;
   known = h.known;
   passed = h.passed;
+  bounds = λ d i e. h.bounds d i e;
   guards = ap (λ n. n + 1) h.guards;
   numbered = numbered_more o.guard o.guards h.numbered;
 }
@@ -98,6 +99,7 @@ stands_guarded t o r p operation args snap e h = record {
   overflow = h.overflow;
   known = h.known;
   passed = h.passed;
+  bounds = λ d i e. h.bounds d i e;
   guards = ap (λ n. n + 1) h.guards;
   numbered = numbered_last o.guard o.guards e h.numbered;
 }

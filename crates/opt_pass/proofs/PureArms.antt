@@ -1,5 +1,5 @@
 -- What the arms of the integer family keep.
-use Rattle.std.proofs.Common.{◌≡◌, ◌+◌, Bool, true, false, cond, List, [], ◌∷◌, Option, Some, None, slice_get, map, refl, sym, ap, ◌∙◌, subst, arith, inl}
+use Rattle.std.proofs.Common.{◌≡◌, ◌+◌, Bool, true, false, cond, List, [], ◌∷◌, Option, Some, None, length, slice_get, map, refl, sym, ap, ◌∙◌, subst, arith, inl}
 use Rattle.std.specs.Option.{option_map}
 use Rattle.std.specs.List.{AllByRecursion}
 use Rattle.trace_ops.specs.declared.code.OpCode.{OpCode}
@@ -42,8 +42,14 @@ use Rattle.trace_ops.specs.declared.piece.Val.TheVariants.{Known}
 use Rattle.trace_ops.specs.Classes.{is_guard}
 use Rattle.trace_ops.specs.Facts.{gives_of}
 use Rattle.opt_pass.specs.Forming.{IsArg, defined_in, Forms, IsRuled, IsScoped}
-use Rattle.opt_pass.proofs.Shaping.{keeps_form_value, keeps_form_made, value_noted, value_folded, value_same}
+use Rattle.opt_pass.proofs.Shaping.{keeps_form_value, keeps_form_made, value_noted, value_folded, value_int, takes_words, value_same}
+use Rattle.opt_pass.proofs.Rightly.{kinds_now}
+use Rattle.opt_pass.specs.Rightly.{HoldsRightly, OpHasWords}
+use Rattle.opt_pass.specs.Bounding.{GivesOnly}
+use Rattle.opt_pass.proofs.Bounding.{mapped_words, only_given}
+use Rattle.opt_pass.proofs.Limiting.{args_words}
 use Rattle.opt_pass.proofs.Naming.{names_given}
+use Rattle.opt_pass.proofs.Pooled.{keeps_pool_value, keeps_pool_made}
 
 false_true : false ≡ true → ⊥
 false_true e = cc
@@ -59,7 +65,7 @@ no_set operation pure s = absurd (false_true (sym (ap sets_overflow (pure_plain 
 
 -- where an argument has the operation's value
 pub keeps_value : (op : Op) (o new : Pass) (of : BoxId) (value : Arg) → o.ended ≡ false → is_pure op.code ≡ true → op.result ≡ Some of
-    → ((laws : Laws) (t : Table) (r : Rec) (p : Opt) (h : Stands t o r p) (vs : List Value) (y : Value) → AllByRecursion (IsThere t) op.args → values_of r op.args ≡ Some vs → fold op.code vs ≡ Some y → ArgIs (at_states r p h.mapped h.virtuals) value y)
+    → ((laws : Laws) (t : Table) (r : Rec) (p : Opt) (h : Stands t o r p) → HoldsRightly r → OpHasWords op → (vs : List Value) (y : Value) → AllByRecursion (IsThere t) op.args → values_of r op.args ≡ Some vs → fold op.code vs ≡ Some y → ArgIs (at_states r p h.mapped h.virtuals) value y)
     → (Laws → (set : TraceSet) (label : List BoxId) → IsRuled set.table op → IsScoped o.names op → Forms set label o → IsArg set.table (defined_in label o) (gives_of op.code) value)
     → new ≡ named_as o of value → KeepsAll op o new
 keeps_value op o new of value going pure gives is form n = subst (KeepsAll op o) (sym n) (record {
@@ -69,7 +75,7 @@ keeps_value op o new of value going pure gives is form n = subst (KeepsAll op o)
     late = [];
     ops = no_ops o.ops;
     guards = none_late o.guards;
-    follows = λ r p h kinds now. value_turns laws t o r p h op right going pure of gives value (λ vs y e f. is laws t r p h vs y right.args e f);
+    follows = λ r p h own kinds now. value_turns laws t o r p h op right going pure of gives value (λ vs y e f. is laws t r p h kinds own vs y right.args e f);
   };
   boxes = omega arith;
   counted = omega arith;
@@ -79,17 +85,18 @@ keeps_value op o new of value going pure gives is form n = subst (KeepsAll op o)
   target = refl;
   forms = keeps_form_value op o of value gives form;
   names = λ laws. names_given laws op o (named_as o of value) of (Known value) gives refl;
+  pool = keeps_pool_value op o of value;
 })
 
 pub keeps_raw : (op : Op) (o new : Pass) (of : BoxId) (value : Arg) (raws : List Arg) → o.ended ≡ false → is_pure op.code ≡ true → op.result ≡ Some of → IsFew raws → raws ≡ map (raw o.names) op.args → Some value ≡ noted o.known op.code raws → new ≡ named_as o of value → KeepsAll op o new
 keeps_raw op o new of value raws going pure gives few is at n = keeps_value op o new of value going pure gives
-    (λ laws t r p h vs y there e f.
+    (λ laws t r p h rightly own vs y there e f.
     let s = named_stand t o r p h (raw o.names) (by_raw t o r p h) op.args vs there e in
     found_is laws t o r p h op.code raws s.0 vs y value few (sym at) (ap (opt_values p) is ∙ s.1) s.2 f) (value_noted op o value raws few (sym at)) n
 
 pub keeps_meant : (op : Op) (o new : Pass) (of : BoxId) (value : Arg) (args : List Arg) → o.ended ≡ false → is_pure op.code ≡ true → op.result ≡ Some of → IsFew args → args ≡ args_of o op.args → Some value ≡ noted o.known op.code args → new ≡ named_as o of value → KeepsAll op o new
 keeps_meant op o new of value args going pure gives few is at n = keeps_value op o new of value going pure gives
-    (λ laws t r p h vs y there e f.
+    (λ laws t r p h rightly own vs y there e f.
     let s = args_stand t o r p h op.args vs there e in
     found_is laws t o r p h op.code args s.0 vs y value few (sym at) (ap (opt_values p) is ∙ s.1) s.2 f) (value_noted op o value args few (sym at)) n
 
@@ -101,11 +108,24 @@ pub keeps_folded : (op : Op) (o new : Pass) (of : BoxId) (value : Arg) (args : L
 keeps_folded op o new of value args going pure gives is at n =
     let q = folded_arg_is (folded_of op.code args) value at in
     keeps_value op o new of (arg.Const q.0) going pure gives
-    (λ laws t r p h vs y there e f.
+    (λ laws t r p h rightly own vs y there e f.
     let s = args_stand t o r p h op.args vs there e in
     let g = fold_too laws t o r p h op.code s.0 vs y s.2 f in
     let same : v.Int q.0 ≡ g.0 = some_same (sym (folded_is (value_in p.boxes) op.code args q.0 s.0 q.1 (ap (opt_values p) is ∙ s.1)) ∙ g.1) in
     (v.Int q.0, refl, subst (λ x. Maps (slice_get h.mapped) x y) (sym same) g.2)) (value_folded op o q.0 args pure q.1) (n ∙ ap (named_as o of) q.2)
+
+-- whatever words of their intervals the arguments are
+value_decided : (op : Op) (o : Pass) (w : ℤ) (args : List Arg) → is_pure op.code ≡ true → GivesOnly o.bounds op.code args w → Laws → (set : TraceSet) (label : List BoxId) → IsRuled set.table op → IsScoped o.names op → Forms set label o → IsArg set.table (defined_in label o) (gives_of op.code) (arg.Const w)
+value_decided op o w args pure g laws set label ruled scoped h = value_int op o w pure (takes_words op.code (length args) g.arity) laws set label ruled scoped h
+
+pub keeps_decided : (op : Op) (o new : Pass) (of : BoxId) (w : ℤ) (args : List Arg) → o.ended ≡ false → is_pure op.code ≡ true → op.result ≡ Some of → args ≡ args_of o op.args → GivesOnly o.bounds op.code args w → new ≡ named_as o of (arg.Const w) → KeepsAll op o new
+keeps_decided op o new of w args going pure gives is only n = keeps_value op o new of (arg.Const w) going pure gives
+    (λ laws t r p h rightly own vs y there e f.
+    let s = args_stand t o r p h op.args vs there e in
+    let g = fold_too laws t o r p h op.code s.0 vs y s.2 f in
+    let words = mapped_words (slice_get h.mapped) s.0 vs s.2 (args_words laws r op rightly own vs e) in
+    let same : g.0 ≡ v.Int w = only_given (value_in p.boxes) o.bounds h.bounds op.code args s.0 g.0 (ap (opt_values p) is ∙ s.1) words g.1 w only in
+    (v.Int w, refl, subst (λ x. Maps (slice_get h.mapped) x y) same g.2)) (value_decided op o w args pure only) n
 
 -- same_as
 
@@ -157,7 +177,7 @@ one_value f a u e = by (has_value a) e
 
 pub keeps_same : (op : Op) (o new : Pass) (of : BoxId) (value : Arg) (raws : List Arg) → o.ended ≡ false → is_pure op.code ≡ true → op.result ≡ Some of → raws ≡ map (raw o.names) op.args → Some value ≡ same_of op.code raws → new ≡ named_as o of value → KeepsAll op o new
 keeps_same op o new of value raws going pure gives is at n = keeps_value op o new of value going pure gives
-    (λ laws t r p h vs y there e f.
+    (λ laws t r p h rightly own vs y there e f.
     let s = named_stand t o r p h (raw o.names) (by_raw t o r p h) op.args vs there e in
     let g = fold_too laws t o r p h op.code s.0 vs y s.2 f in
     let k = passed_on op.code raws value (sym at) in
@@ -176,7 +196,7 @@ keeps_made op o new of raws args going pure gives few_raws few is_raw is made =
         late = [];
         ops = ap (λ (z : Pass). z.ops) noted.rest;
         guards = ap (λ (z : Pass). z.guards) noted.rest ∙ none_late o.guards;
-        follows = λ r p h kinds now. made_turns laws t o r p h op right going pure of gives new noted (subst IsFew is few) (subst IsFew is_raw few_raws) now;
+        follows = λ r p h own kinds now. made_turns laws t o r p h op right going pure of gives new noted (subst IsFew is few) (subst IsFew is_raw few_raws) kinds own (kinds_now (recorded_step t op r) now);
       };
       boxes = omega (arith, size);
       counted = omega (arith, count);
@@ -186,4 +206,5 @@ keeps_made op o new of raws args going pure gives few_raws few is_raw is made =
       target = ap (λ (z : Pass). z.target) noted.rest;
       forms = keeps_form_made op o new of (inl (pure_plain op.code pure)) gives (subst IsFew is_raw few_raws) (subst IsFew is few) noted;
       names = λ laws. names_given laws op o new of (Known (arg.Of (next_box o of))) gives (ap (λ (z : Pass). z.names) noted.rest);
+      pool = keeps_pool_made op o new of (map (raw o.names) op.args) (args_of o op.args) noted;
     }

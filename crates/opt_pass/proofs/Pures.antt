@@ -59,6 +59,13 @@ use Rattle.opt_pass.proofs.Runs.{wrong_here}
 use Rattle.opt_pass.proofs.Args.{by_raw, named_stand, args_stand, followed_is}
 use Rattle.opt_pass.proofs.Bound.{name_same, name_other, agrees_named, stands_worlds, stands_bound, fresh_extends}
 use Rattle.opt_pass.specs.Laws.{Laws}
+use Rattle.std.specs.Prelude.{IfSome}
+use Rattle.trace_meaning.specs.Sound.{HasWord}
+use Rattle.int_bounds.specs.declared.interval.Interval.{Interval}
+use Rattle.opt_pass.specs.Bounding.{GivesWithin, IsBounded}
+use Rattle.opt_pass.specs.Rightly.{HoldsRightly, OpHasWords}
+use Rattle.opt_pass.proofs.Bounding.{mapped_words, within_given}
+use Rattle.opt_pass.proofs.Limiting.{stands_limited, args_words}
 
 -- A recorded box is known
 
@@ -78,6 +85,7 @@ stands_named laws t o r p h b value y is = record {
   overflow = λ e. absurd (false_true e);
   known = λ k x e. h.known k x e;
   passed = h.passed;
+  bounds = λ d i e. h.bounds d i e;
   guards = h.guards;
   numbered = h.numbered;
 }
@@ -143,6 +151,7 @@ stands_known laws t o r p h operation args value known few notes holds = record 
   overflow = h.overflow;
   known = known_noted laws (λ c xs x. FactHolds t (at_states r p h.mapped h.virtuals) (fact.Same c xs x)) o.known known operation args value few notes holds h.known;
   passed = h.passed;
+  bounds = λ d i e. h.bounds d i e;
   guards = h.guards;
   numbered = h.numbered;
 }
@@ -242,9 +251,9 @@ module _ (laws : Laws) (t : Table) (o : Pass) (r : Rec) (p : Opt) (h : Stands t 
       abbrev made : OptOp
       made = opt.Plain op.code (Some (next_box o b)) (args_of o op.args) op.descr
 
-      made_given : (vs us us' : List Value) → AllZip (MapsAt (at_states r p h.mapped h.virtuals)) us vs → AllZip (MapsAt (at_states r p h.mapped h.virtuals)) us' vs → opt_values p (args_of o op.args) ≡ Some us → opt_values p (map (raw o.names) op.args) ≡ Some us' → (y : Value) → fold op.code vs ≡ Some y → kind_of_value y ≡ b.kind
+      made_given : (vs us us' : List Value) → AllByRecursion HasWord vs → AllZip (MapsAt (at_states r p h.mapped h.virtuals)) us vs → AllZip (MapsAt (at_states r p h.mapped h.virtuals)) us' vs → opt_values p (args_of o op.args) ≡ Some us → opt_values p (map (raw o.names) op.args) ≡ Some us' → (y : Value) → fold op.code vs ≡ Some y → kind_of_value y ≡ b.kind
           → (u : Value) × (fold op.code us ≡ Some u) × Stands t new (record r { boxes = bind b y r.boxes }) (record p { boxes = bind (next_box o b) u p.boxes })
-      made_given vs us us' m m' e e' y f kind =
+      made_given vs us us' words m m' e e' y f kind =
           let g = fold_too op.code us vs y m f in
           let g' = fold_too op.code us' vs y m' f in
           let same : g'.0 ≡ g.0 = same_value (length t.prebuilts) h.mapped h.agrees.injective g'.0 g.0 y g'.2 g.2 in
@@ -259,29 +268,37 @@ module _ (laws : Laws) (t : Table) (o : Pass) (r : Rec) (p : Opt) (h : Stands t 
           (us', all_values-extends (value_in p.boxes) (value_in (bind c g.0 p.boxes)) more (map (raw o.names) op.args) us' e', g.0, g'.1 ∙ ap Some same, bound_same laws c g.0 p.boxes) in
           let second = stands_known laws t (record o1 { known = noted.middle }) r1 p1 first op.code (args_of o op.args) (arg.Of c) new.known few noted.second
           (us, all_values-extends (value_in p.boxes) (value_in (bind c g.0 p.boxes)) more (args_of o op.args) us e, g.0, g.1, bound_same laws c g.0 p.boxes) in
-          (g.0, g.1, subst (λ z. Stands t z r1 p1) (sym noted.rest) second)
+          let lies = lies_there noted.interval noted.gives us g.0 (mapped_words (slice_get h.mapped) us vs m words) e g.1 in
+          let third = stands_limited laws t (record o1 { known = new.known }) r1 p1 second c noted.interval new.bounds noted.bounds lies in
+          (g.0, g.1, subst (λ z. Stands t z r1 p1) (sym noted.rest) third)
+        where
+          lies_there : (x : Option Interval) → IfSome x (GivesWithin o.bounds op.code (args_of o op.args)) → (us : List Value) (u : Value) → AllByRecursion HasWord us → opt_values p (args_of o op.args) ≡ Some us → fold op.code us ≡ Some u → IfSome x (IsBounded (value_in (bind (next_box o b) u p.boxes)) (next_box o b))
+          lies_there None g us u w e q = tt
+          lies_there (Some i) g us u w e q =
+              let k = within_given (value_in p.boxes) o.bounds h.bounds op.code (args_of o op.args) us u e w q i g in
+              (k.0, bound_same laws (next_box o b) u p.boxes ∙ ap Some k.1, k.2)
 
-      made_folded : (vs us us' : List Value) → AllZip (MapsAt (at_states r p h.mapped h.virtuals)) us vs → AllZip (MapsAt (at_states r p h.mapped h.virtuals)) us' vs → opt_values p (args_of o op.args) ≡ Some us → opt_values p (map (raw o.names) op.args) ≡ Some us' → (x : Option Value) → fold op.code vs ≡ x → KindsNow (recorded_plain (Some b) r (value_done r.world x))
+      made_folded : (vs us us' : List Value) → AllByRecursion HasWord vs → AllZip (MapsAt (at_states r p h.mapped h.virtuals)) us vs → AllZip (MapsAt (at_states r p h.mapped h.virtuals)) us' vs → opt_values p (args_of o op.args) ≡ Some us → opt_values p (map (raw o.names) op.args) ≡ Some us' → (x : Option Value) → fold op.code vs ≡ x → KindsNow (recorded_plain (Some b) r (value_done r.world x))
           → SameTurn t new (recorded_plain (Some b) r (value_done r.world x)) (drive_to (opt_step t) (made ∷ []) p)
-      made_folded vs us us' m m' e e' None f kinds = wrong_here laws t o new r p (made ∷ []) h
-      made_folded vs us us' m m' e e' (Some y) f kinds =
-          let g = made_given vs us us' m m' e e' y f (kinds b y (bound_same laws b y r.boxes)) in
+      made_folded vs us us' words m m' e e' None f kinds = wrong_here laws t o new r p (made ∷ []) h
+      made_folded vs us us' words m m' e e' (Some y) f kinds =
+          let g = made_given vs us us' words m m' e e' y f (kinds b y (bound_same laws b y r.boxes)) in
           let step : drive_to (opt_step t) (made ∷ []) p ≡ On (record p { boxes = bind (next_box o b) g.0 p.boxes }) =
           ap (λ z. then_turn (opt_perform t op.code (Some (next_box o b)) (args_of o op.args) op.descr p z) (drive_to (opt_step t) [])) e
           ∙ ap (λ z. then_turn (opt_plain (Some (next_box o b)) p z) (drive_to (opt_step t) [])) (pure_done t op.code op.descr (args_of o op.args) us p.world pure ∙ ap (value_done p.world) g.1) in
           let going_too : new.ended ≡ false = ap (λ (z : Pass). z.ended) noted.rest ∙ going in
           subst (λ z. SameTurn t new (recorded_plain (Some b) r (value_done r.world (Some y))) z) (sym step) (going_too, g.2)
 
-      made_valued : (x : Option (List Value)) → values_of r op.args ≡ x → KindsNow (recorded_with t op r x) → SameTurn t new (recorded_with t op r x) (drive_to (opt_step t) (made ∷ []) p)
-      made_valued None e kinds = wrong_here laws t o new r p (made ∷ []) h
-      made_valued (Some vs) e kinds =
+      made_valued : HoldsRightly r → OpHasWords op → (x : Option (List Value)) → values_of r op.args ≡ x → KindsNow (recorded_with t op r x) → SameTurn t new (recorded_with t op r x) (drive_to (opt_step t) (made ∷ []) p)
+      made_valued rightly own None e kinds = wrong_here laws t o new r p (made ∷ []) h
+      made_valued rightly own (Some vs) e kinds =
           let s = args_stand t o r p h op.args vs right.args e in
           let q = named_stand t o r p h (raw o.names) (by_raw t o r p h) op.args vs right.args e in
           subst (λ z. SameTurn t new z (drive_to (opt_step t) (made ∷ []) p)) (sym (pure_step vs))
-          (made_folded vs s.0 q.0 s.2 q.2 s.1 q.1 (fold op.code vs) refl (subst KindsNow (pure_step vs) kinds))
+          (made_folded vs s.0 q.0 (args_words laws r op rightly own vs e) s.2 q.2 s.1 q.1 (fold op.code vs) refl (subst KindsNow (pure_step vs) kinds))
 
-      pub made_turns : KindsNow (recorded_step t op r) → SameTurn t new (recorded_step t op r) (drive_to (opt_step t) (opt.Plain op.code (Some (next_box o b)) (args_of o op.args) op.descr ∷ []) p)
-      made_turns kinds = made_valued (values_of r op.args) refl kinds
+      pub made_turns : HoldsRightly r → OpHasWords op → KindsNow (recorded_step t op r) → SameTurn t new (recorded_step t op r) (drive_to (opt_step t) (opt.Plain op.code (Some (next_box o b)) (args_of o op.args) op.descr ∷ []) p)
+      made_turns rightly own kinds = made_valued rightly own (values_of r op.args) refl kinds
 
 -- Constants
 

@@ -35,7 +35,7 @@ use Rattle.trace_ops.specs.declared.piece.OptOp.TheVariants as opt
 use Rattle.trace_ops.specs.declared.piece.Entry.{Entry}
 use Rattle.trace_ops.specs.Facts.{takes_of, gives_of, cites_of, part_of}
 use Rattle.trace_ops.specs.Classes.{plain, guarding, is_guard, is_pure, is_plain}
-use Rattle.trace_ops.specs.Folds.{word_of}
+use Rattle.trace_ops.specs.Folds.{word_of, integer_arity}
 use Rattle.trace_ops.specs.Fits.{IsWanted, AreCompared, FitArgs, FitsDescr}
 use Rattle.trace_ops.specs.Kinds.{kind_of_arg, NamesArg, NamesVal}
 use Rattle.trace_ops.specs.Lawful.{AreDistinct, IsNumbered, IsLawful}
@@ -62,7 +62,7 @@ use Rattle.opt_pass.proofs.Bound.{name_same}
 use Rattle.opt_pass.proofs.Pures.{key_code}
 use Rattle.opt_pass.proofs.Becoming.{Become, meant_args, args_defined, args_named, kinds_kept, fit, raw_arg}
 use Rattle.opt_pass.proofs.Snapping.{no_more, AreGood, good_frames, good_slots, bare_snap, snap_sound, snap_named, snap_defined, snap_parts, entry_lawful}
-use Rattle.opt_pass.proofs.Formed.{forms_giving, forms_done, forms_guard, forms_exit, forms_end, forms_skipped, forms_named, forms_standing, forms_noted, forms_passed}
+use Rattle.opt_pass.proofs.Formed.{forms_giving, forms_done, forms_guard, forms_exit, forms_end, forms_skipped, forms_named, forms_standing, forms_noted, forms_limited, forms_passed}
 
 -- Classes of operations
 
@@ -400,8 +400,16 @@ folded_folds : (operation : OpCode) (args : List Arg) (z : ℤ) → folded_of op
 folded_folds code.SameAsR args z e = absurd (not_folded args z e)
 folded_folds operation args z e = refl
 
+-- what takes words folds
+pub takes_words : (operation : OpCode) (n : ℕ) → integer_arity operation ≡ Some n → folds operation ≡ true
+takes_words code.SameAsR n e = absurd (none_some e)
+takes_words operation n e = refl
+
+pub value_int : (op : Op) (o : Pass) (z : ℤ) → is_pure op.code ≡ true → folds op.code ≡ true → Laws → (set : TraceSet) (label : List BoxId) → IsRuled set.table op → IsScoped o.names op → Forms set label o → IsArg set.table (defined_in label o) (gives_of op.code) (arg.Const z)
+value_int op o z pure f laws set label ruled scoped h = record { kind = sym (int_is (gives_of op.code) (pure_gives op.code pure f)); named = tt; boxes = tt }
+
 pub value_folded : (op : Op) (o : Pass) (z : ℤ) (args : List Arg) → is_pure op.code ≡ true → folded_of op.code args ≡ Some z → Laws → (set : TraceSet) (label : List BoxId) → IsRuled set.table op → IsScoped o.names op → Forms set label o → IsArg set.table (defined_in label o) (gives_of op.code) (arg.Const z)
-value_folded op o z args pure at laws set label ruled scoped h = record { kind = sym (int_is (gives_of op.code) (pure_gives op.code pure (folded_folds op.code args z at))); named = tt; boxes = tt }
+value_folded op o z args pure at laws set label ruled scoped h = value_int op o z pure (folded_folds op.code args z at) laws set label ruled scoped h
 
 -- what is passed on has the kind of what is passed
 passes_kind : (operation : OpCode) (t : Table) (d : Descr) (raws : List Arg) (value a : Arg) → same_of operation raws ≡ Some value → FitArgs t d (takes_of operation) (a ∷ []) → kind_of_arg a ≡ gives_of operation
@@ -453,7 +461,7 @@ keeps_form_made op o new of is gives few_raws few made laws set label apart valu
     let value : IsArg set.table (defined_in label mid) (gives_of op.code) (arg.Of (next_box o of)) = subst (λ k. IsArg set.table (defined_in label mid) k (arg.Of (next_box o of))) kind (one.names of (Known (arg.Of (next_box o of))) (name_same laws of (Known (arg.Of (next_box o of))) o.names)) in
     let two : Forms set label (record mid { known = made.middle }) = forms_noted laws set label mid one made.middle op.code (map (raw o.names) op.args) (arg.Of (next_box o of)) few_raws made.first value in
     let three : Forms set label (record mid { known = new.known }) = forms_noted laws set label (record mid { known = made.middle }) two new.known op.code (args_of o op.args) (arg.Of (next_box o of)) few made.second value in
-    subst (Forms set label) (sym made.rest) three
+    subst (Forms set label) (sym made.rest) (forms_limited laws set label (record mid { known = new.known }) three new.bounds)
 
 -- Guards that tell something
 

@@ -1,5 +1,5 @@
 -- One step after another: the whole run.
-use Rattle.std.proofs.Common.{◌≡◌, ℕ, ◌+◌, true, false, List, [], ◌∷◌, ◌++◌, length, take, refl, sym, ap, ◌∙◌, subst, ◌⊎◌, inl, inr}
+use Rattle.std.proofs.Common.{◌≡◌, ℕ, ◌+◌, true, false, List, [], ◌∷◌, ◌++◌, Some, length, take, slice_get, refl, sym, ap, ◌∙◌, subst, ◌⊎◌, inl, inr}
 use Rattle.trace_ops.specs.declared.trace.BoxId.{BoxId}
 use Rattle.trace_ops.specs.declared.trace.Op.{Op}
 use Rattle.trace_ops.specs.declared.table.Table.{Table}
@@ -16,8 +16,9 @@ use Rattle.opt_meaning.specs.Leaving.{SameLeave}
 use Rattle.opt_pass.specs.declared.state.Pass.{Pass}
 use Rattle.trace_meaning.specs.Legs.{then_turn, drive_to}
 use Rattle.opt_pass.specs.Standing.{world_now, SameTurn}
-use Rattle.trace_meaning.specs.Keeping.{KeepsKinds}
-use Rattle.opt_pass.specs.Keeping.{KindsNow, Keeps, Follows}
+use Rattle.lists.proofs.Eaches.{each_at}
+use Rattle.opt_pass.specs.Rightly.{RightlyNow, OpHasWords, RunsRightly}
+use Rattle.opt_pass.specs.Keeping.{Keeps, Follows}
 use Rattle.opt_pass.proofs.Runs.{drive_to-append, drive-is, ended_by, then_on, more_grows, begins_longer, begins_now, leave_late}
 use Rattle.opt_pass.specs.Laws.{Laws}
 
@@ -29,47 +30,47 @@ false_true : false ≡ true → ⊥
 false_true e = cc
 
 -- one more recorded operation
-pub turn_more : (laws : Laws) (t : Table) (op : Op) (old new : Pass) → (f : Keeps t op old new) → (a : Turn Rec) (b : Turn Opt) → SameTurn t old a b → KindsNow a → KindsNow (then_turn a (recorded_step t op)) → SameTurn t new (then_turn a (recorded_step t op)) (then_turn b (drive_to (opt_step t) f.more))
-turn_more laws t op old new f (On r) (On p) h k n = f.follows r p h.1 k n
-turn_more laws t op old new f (On r) (Off y) h k n = absurd h
-turn_more laws t op old new f (Off (Wrong w)) b h k n = begins_longer (length t.prebuilts) w.log (world_now b).log (world_now (then_turn b (drive_to (opt_step t) f.more))).log (more_grows laws t f.more b) h
-turn_more laws t op old new f (Off (Fails m vs w)) (On p) h k n = absurd h
-turn_more laws t op old new f (Off (Jumps vs w)) (On p) h k n = absurd h
-turn_more laws t op old new f (Off (Finishes vs w)) (On p) h k n = absurd h
-turn_more laws t op old new f (Off (Waits w)) (On p) h k n = absurd h
-turn_more laws t op old new f (Off (Misfits w)) (On p) h k n = absurd h
-turn_more laws t op old new f (Off (Fails m vs w)) (Off y) h k n = (subst (λ g. SameLeave t g new.at_end (Fails m vs w) y) (sym f.guards) (leave_late t old.guards f.late old.at_end new.at_end (Fails m vs w) y (λ z. z) h.0), tt)
-turn_more laws t op old new f (Off (Jumps vs w)) (Off y) h k n = absurd (false_true (sym f.going ∙ h.1))
-turn_more laws t op old new f (Off (Finishes vs w)) (Off y) h k n = (subst (λ g. SameLeave t g new.at_end (Finishes vs w) y) (sym f.guards) (leave_late t old.guards f.late old.at_end new.at_end (Finishes vs w) y (λ z. z) h.0), tt)
-turn_more laws t op old new f (Off (Waits w)) (Off y) h k n = (subst (λ g. SameLeave t g new.at_end (Waits w) y) (sym f.guards) (leave_late t old.guards f.late old.at_end new.at_end (Waits w) y (λ z. z) h.0), tt)
-turn_more laws t op old new f (Off (Misfits w)) (Off y) h k n = (subst (λ g. SameLeave t g new.at_end (Misfits w) y) (sym f.guards) (leave_late t old.guards f.late old.at_end new.at_end (Misfits w) y (λ z. z) h.0), tt)
+pub turn_more : (laws : Laws) (t : Table) (op : Op) (old new : Pass) → (f : Keeps t op old new) → (a : Turn Rec) (b : Turn Opt) → SameTurn t old a b → OpHasWords op → RightlyNow a → RightlyNow (then_turn a (recorded_step t op)) → SameTurn t new (then_turn a (recorded_step t op)) (then_turn b (drive_to (opt_step t) f.more))
+turn_more laws t op old new f (On r) (On p) h own k n = f.follows r p h.1 own k n
+turn_more laws t op old new f (On r) (Off y) h own k n = absurd h
+turn_more laws t op old new f (Off (Wrong w)) b h own k n = begins_longer (length t.prebuilts) w.log (world_now b).log (world_now (then_turn b (drive_to (opt_step t) f.more))).log (more_grows laws t f.more b) h
+turn_more laws t op old new f (Off (Fails m vs w)) (On p) h own k n = absurd h
+turn_more laws t op old new f (Off (Jumps vs w)) (On p) h own k n = absurd h
+turn_more laws t op old new f (Off (Finishes vs w)) (On p) h own k n = absurd h
+turn_more laws t op old new f (Off (Waits w)) (On p) h own k n = absurd h
+turn_more laws t op old new f (Off (Misfits w)) (On p) h own k n = absurd h
+turn_more laws t op old new f (Off (Fails m vs w)) (Off y) h own k n = (subst (λ g. SameLeave t g new.at_end (Fails m vs w) y) (sym f.guards) (leave_late t old.guards f.late old.at_end new.at_end (Fails m vs w) y (λ z. z) h.0), tt)
+turn_more laws t op old new f (Off (Jumps vs w)) (Off y) h own k n = absurd (false_true (sym f.going ∙ h.1))
+turn_more laws t op old new f (Off (Finishes vs w)) (Off y) h own k n = (subst (λ g. SameLeave t g new.at_end (Finishes vs w) y) (sym f.guards) (leave_late t old.guards f.late old.at_end new.at_end (Finishes vs w) y (λ z. z) h.0), tt)
+turn_more laws t op old new f (Off (Waits w)) (Off y) h own k n = (subst (λ g. SameLeave t g new.at_end (Waits w) y) (sym f.guards) (leave_late t old.guards f.late old.at_end new.at_end (Waits w) y (λ z. z) h.0), tt)
+turn_more laws t op old new f (Off (Misfits w)) (Off y) h own k n = (subst (λ g. SameLeave t g new.at_end (Misfits w) y) (sym f.guards) (leave_late t old.guards f.late old.at_end new.at_end (Misfits w) y (λ z. z) h.0), tt)
 
 abbrev pub rec_begin : List BoxId → List Value → World → Rec
 rec_begin inputs vs w = record { boxes = bound_to inputs vs; guards = 0; world = w }
 
 -- So far, from every pair that the entry admits; ops are the operations so far of all
 pub record SoFar (t : Table) (inputs : List BoxId) (entry : Entry) (label : List BoxId) (all ops : List Op) (o : Pass) : Type 0 where
-  pub same : (vs : List Value) (w : World) (us : List Value) (u : World) → KeepsKinds t inputs all vs w → Admits t entry vs w us u
+  pub same : (vs : List Value) (w : World) (us : List Value) (u : World) → RunsRightly t inputs all vs w → Admits t entry vs w us u
       → SameTurn t o (drive_to (recorded_step t) ops (rec_begin inputs vs w)) (drive_to (opt_step t) o.ops (opt_begin label us u))
 
-kinds_of : (t : Table) (inputs : List BoxId) (all : List Op) (vs : List Value) (w : World) → KeepsKinds t inputs all vs w → (n : ℕ) → KindsNow (drive_to (recorded_step t) (take n all) (rec_begin inputs vs w))
+kinds_of : (t : Table) (inputs : List BoxId) (all : List Op) (vs : List Value) (w : World) → RunsRightly t inputs all vs w → (n : ℕ) → RightlyNow (drive_to (recorded_step t) (take n all) (rec_begin inputs vs w))
 kinds_of t inputs all vs w k n = by (drive_to (recorded_step t) (take n all) (rec_begin inputs vs w)) refl
   where
-    by : (q : Turn Rec) → drive_to (recorded_step t) (take n all) (rec_begin inputs vs w) ≡ q → KindsNow q
-    by (On r) e = k n r e
+    by : (q : Turn Rec) → drive_to (recorded_step t) (take n all) (rec_begin inputs vs w) ≡ q → RightlyNow q
+    by (On r) e = k.states n r e
     by (Off l) e = tt
 
-pub so_far_more : (laws : Laws) (t : Table) (inputs : List BoxId) (entry : Entry) (label : List BoxId) (all : List Op) (n : ℕ) (op : Op) (old new : Pass) → take (n + 1) all ≡ take n all ++ op ∷ [] → SoFar t inputs entry label all (take n all) old → Keeps t op old new → SoFar t inputs entry label all (take (n + 1) all) new
-so_far_more laws t inputs entry label all n op old new split h f = record {
+pub so_far_more : (laws : Laws) (t : Table) (inputs : List BoxId) (entry : Entry) (label : List BoxId) (all : List Op) (n : ℕ) (op : Op) (old new : Pass) → take (n + 1) all ≡ take n all ++ op ∷ [] → slice_get all n ≡ Some op → SoFar t inputs entry label all (take n all) old → Keeps t op old new → SoFar t inputs entry label all (take (n + 1) all) new
+so_far_more laws t inputs entry label all n op old new split at h f = record {
   same = λ vs w us u kinds k.
       let a : Turn Rec = drive_to (recorded_step t) (take n all) (rec_begin inputs vs w) in
       let rec : drive_to (recorded_step t) (take (n + 1) all) (rec_begin inputs vs w) ≡ then_turn a (recorded_step t op) =
       ap (λ z. drive_to (recorded_step t) z (rec_begin inputs vs w)) split ∙ drive_to-append (recorded_step t) (take n all) (op ∷ []) (rec_begin inputs vs w) ∙ last a in
-      let now : KindsNow (then_turn a (recorded_step t op)) = subst KindsNow rec (kinds_of t inputs all vs w kinds (n + 1)) in
+      let now : RightlyNow (then_turn a (recorded_step t op)) = subst RightlyNow rec (kinds_of t inputs all vs w kinds (n + 1)) in
       subst (λ z. SameTurn t new z (drive_to (opt_step t) new.ops (opt_begin label us u))) (sym rec)
       (subst (λ z. SameTurn t new (then_turn a (recorded_step t op)) (drive_to (opt_step t) z (opt_begin label us u))) (sym f.ops)
       (subst (SameTurn t new (then_turn a (recorded_step t op))) (sym (drive_to-append (opt_step t) old.ops f.more (opt_begin label us u)))
-      (turn_more laws t op old new f a (drive_to (opt_step t) old.ops (opt_begin label us u)) (h.same vs w us u kinds k) (kinds_of t inputs all vs w kinds n) now)));
+      (turn_more laws t op old new f a (drive_to (opt_step t) old.ops (opt_begin label us u)) (h.same vs w us u kinds k) (each_at OpHasWords all n op kinds.args at) (kinds_of t inputs all vs w kinds n) now)));
 }
   where
     last : (q : Turn Rec) → then_turn q (drive_to (recorded_step t) (op ∷ [])) ≡ then_turn q (recorded_step t op)

@@ -2,6 +2,7 @@
 use Rattle.trace_ops.specs.Equality.{EqualityDecides}
 use Rattle.trace_meaning.specs.Boxes.{BindingLaws}
 use Rattle.trace_meaning.specs.Growing.{OperationsGrow}
+use Rattle.trace_meaning.specs.Worded.{WordLaws}
 use Rattle.agreement.specs.Growing.{BoxesGrow, NamesGrow, FactsChange, FoldsAlike}
 use Rattle.agreement.specs.Renaming.{RenamesAgree, EntryStarts, CallsAreSame}
 use Rattle.agreement.specs.Performs.{PerformsAgree, OverflowsAlike}
@@ -15,6 +16,7 @@ pub record Laws : Type 0 where
   pub equality : EqualityDecides
   pub binding : BindingLaws
   pub operations_grow : OperationsGrow
+  pub words : WordLaws
   pub boxes_grow : BoxesGrow
   pub names_grow : NamesGrow
   pub facts_change : FactsChange

@@ -26,6 +26,8 @@ use Rattle.opt_meaning.specs.Along.{BeginsCalls}
 use Rattle.opt_meaning.specs.Agrees.{Facts, Place, FactHolds, Agrees}
 use Rattle.opt_meaning.specs.Leaving.{SameLeave}
 use Rattle.opt_pass.specs.declared.state.Pass.{Pass}
+use Rattle.int_bounds.specs.declared.interval.Interval.{Interval}
+use Rattle.opt_pass.specs.Bounding.{bound_in, IsBounded}
 use Rattle.opt_pass.specs.Tables.{name_in, followed, meaning, shape_now, pending_now}
 
 -- what the pass knows, as an entry over all boxes so far
@@ -71,6 +73,7 @@ pub record Stands (t : Table) (o : Pass) (r : Rec) (p : Opt) : Type 0 where
   pub overflow : o.checked ≡ true → p.world.overflow ≡ r.world.overflow
   pub known : (k : Key) (value : Arg) → at_key k o.known ≡ Some value → FactHolds t (at_states r p mapped virtuals) (fact.Same k.code (args_in k) value)
   pub passed : (k : Key) (value : Arg) → at_key k o.passed ≡ Some value → HasPassed p k.code (args_in k)
+  pub bounds : (b : BoxId) (i : Interval) → bound_in o.bounds b ≡ Some i → IsBounded (value_in p.boxes) b i
   pub guards : r.guards ≡ o.guard
   pub numbered : AllByRecursion (λ x. x.0 < o.guard) o.guards
 

@@ -160,6 +160,7 @@ started t inputs to target e = record {
   virtuals = [];
   known = [];
   passed = [];
+  bounds = [];
   next = length e.label + length e.shapes;
   ops = entry_ops t e;
   guards = [];

@@ -6,7 +6,7 @@ use agreement::{
     folds_alike, guard_admits, make_agrees, names_grow, overflows_alike, passes_alike,
     performs_agree, plain_admits, renames_agree, shapes_have_spots,
 };
-use trace_meaning::{boxes_keep_their_values, operations_only_add};
+use trace_meaning::{boxes_keep_their_values, operations_keep_words, operations_only_add};
 use trace_ops::equality_decides;
 
 /// All of them hold.
@@ -16,6 +16,7 @@ pub fn laws_hold()
     equality_decides();
     boxes_keep_their_values();
     operations_only_add();
+    operations_keep_words();
     boxes_grow();
     names_grow();
     facts_change();

@@ -2,6 +2,7 @@
 #![tactic(auto)]
 
 mod entries;
+mod intervals;
 mod laws;
 mod names;
 mod pass;

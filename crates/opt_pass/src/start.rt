@@ -4,6 +4,7 @@ ghost use Rattle.opt_meaning.specs.Admits.{plain_entry};
 ghost use Rattle.opt_pass.specs.Starting.{numbered_from, with_names, renaming, renamed_arg, entering, made_box, entered, entered_val, entry_ops, first_names, started};
 
 use crate::entries::plain;
+use crate::intervals::Bounds;
 use crate::names::Names;
 use crate::state::Pass;
 use crate::stores::entry_operations;
@@ -150,6 +151,7 @@ pub fn start(
         virtuals,
         known,
         passed,
+        bounds: Bounds::new(alloc),
         next: entering.label + entering.shapes,
         ops,
         guards: List::of(Vec::new(alloc)),

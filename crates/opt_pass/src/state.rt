@@ -5,6 +5,7 @@ ghost use Rattle.opt_pass.specs.State.{args_of, with_giving, with_done, with_pla
 ghost use Rattle.opt_meaning.specs.Admits.{plain_entry};
 ghost use Rattle.opt_meaning.specs.Step.{resume_args};
 
+use crate::intervals::Bounds;
 use crate::names::{Names, meaning_of, raw_of};
 use box_forward::Pure;
 use heap_cache::Cache;
@@ -32,6 +33,8 @@ pub struct Pass {
     pub known: Pure,
     /// The guards that have passed.
     pub passed: Pure,
+    /// Between which words boxes of the piece lie.
+    pub bounds: Bounds,
     pub next: u32,
     pub ops: List<OptOp>,
     pub guards: List<(u32, Entry)>,

@@ -5,6 +5,7 @@ returns c = record {
   equality = c.equality_decides.ensures;
   binding = c.boxes_keep_their_values.ensures;
   operations_grow = c.operations_only_add.ensures;
+  words = c.operations_keep_words.ensures;
   boxes_grow = c.boxes_grow.ensures;
   names_grow = c.names_grow.ensures;
   facts_change = c.facts_change.ensures;

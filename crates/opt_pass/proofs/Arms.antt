@@ -26,7 +26,7 @@ use Rattle.opt_meaning.specs.Step.{Opt, resume_args}
 use Rattle.opt_pass.specs.declared.state.Pass.{Pass}
 use Rattle.opt_pass.specs.State.{args_of, with_plain, skipped, with_jump, passed_in, with_body, jumped_in, jumped, with_finish, kept_at, exited_at, snap_of, entry_at}
 use Rattle.opt_pass.specs.Standing.{Stands}
-use Rattle.opt_pass.specs.Keeping.{IsThere, sets_overflow, KeepsAll}
+use Rattle.opt_pass.specs.Keeping.{IsThere, sets_overflow, Rests, KeepsAll}
 use Rattle.std.proofs.Common.{Result, Ok, Err, OnOk}
 use Rattle.trace_ops.specs.Classes.{overflowing as overflowing_part}
 use Rattle.opt_pass.specs.Keeping.{IsPerformed, IsTested}
@@ -42,6 +42,7 @@ use Rattle.opt_pass.specs.State.{next_box}
 use Rattle.opt_pass.specs.Rising.{counted}
 use Rattle.opt_pass.specs.Forming.{KeepsNames}
 use Rattle.opt_pass.proofs.Shaping.{keeps_form_plain, keeps_form_kept, keeps_form_skipped, keeps_form_exited, keeps_form_jump, keeps_form_body, keeps_form_finish}
+use Rattle.opt_pass.proofs.Pooled.{keeps_pool_plain, keeps_pool_kept, keeps_pool_exited, keeps_pool_skipped, keeps_pool_jump, keeps_pool_body, keeps_pool_finish}
 use Rattle.opt_pass.proofs.Naming.{names_tested, names_ended, names_given, names_none}
 
 pub ok_by : {T E X : Type 0} (r : Result T E) (x y : X) (Q : Type 0) → (x ≡ y → Q) → OnOk r (x ≡ y) → OnOk r Q
@@ -57,6 +58,7 @@ pub record HasFrame (o new : Pass) : Type 0 where
   pub at_end : new.at_end ≡ o.at_end
   pub to : new.to ≡ o.to
   pub target : new.target ≡ o.target
+  pub rests : Rests o new
 
 pub framed : (o new mid : Pass) → new ≡ mid → HasFrame o mid → HasFrame o new
 framed o new mid e h = subst (HasFrame o) (sym e) h
@@ -76,6 +78,10 @@ plain_fields : (o : Pass) (operation : OpCode) (to : Option BoxId) (args : List 
     ((with_plain o operation to args d).ops ≡ o.ops ++ opt.Plain operation (given_by o to) args d ∷ []) × ((with_plain o operation to args d).guards ≡ o.guards) × ((with_plain o operation to args d).next ≤ o.next + 1) × ((with_plain o operation to args d).guard ≡ o.guard) × ((with_plain o operation to args d).checked ≡ is_overflowing operation) × ((with_plain o operation to args d).to ≡ o.to) × ((with_plain o operation to args d).target ≡ o.target) × ((with_plain o operation to args d).ended ≡ o.ended) × ((with_plain o operation to args d).at_end ≡ o.at_end)
 plain_fields o operation (Some b) args d = (refl, refl, omega arith, refl, refl, refl, refl, refl, refl)
 plain_fields o operation None args d = (refl, refl, omega arith, refl, refl, refl, refl, refl, refl)
+
+plain_rests : (o : Pass) (operation : OpCode) (to : Option BoxId) (args : List Arg) (d : Descr) → Rests o (with_plain o operation to args d)
+plain_rests o operation (Some b) args d = record { virtuals = refl; cache = refl; held = refl }
+plain_rests o operation None args d = record { virtuals = refl; cache = refl; held = refl }
 
 pub sets_is : (p : Part) → sets_overflow p ≡ overflowing_part p
 sets_is part.Plain = refl
@@ -105,10 +111,12 @@ keeps_plain_now op o going is =
       counted = let g : (with_plain o op.code op.result (args_of o op.args) op.descr).guard ≡ o.guard = f.3 in omega (arith, g);
       checked = λ s. f.4 ∙ sym (sets_is (part_of op.code)) ∙ s;
       printed = prints_plain op o (with_plain o op.code op.result (args_of o op.args) op.descr) (given_by o op.result) going f.0 f.1 (f.7 ∙ going, f.8) is f.3;
+      rests = plain_rests o op.code op.result (args_of o op.args) op.descr;
       to = f.5;
       target = f.6;
       forms = keeps_form_plain op o is;
       names = λ laws. plain_names laws op.result refl;
+      pool = keeps_pool_plain op o;
     }
   where
     plain_names : (laws : Laws) (to : Option BoxId) → op.result ≡ to → KeepsNames op o (with_plain o op.code op.result (args_of o op.args) op.descr)
@@ -145,10 +153,12 @@ keeps_kept_now op o going is = record {
   counted = omega arith;
   checked = λ s. no_set op is s;
   printed = prints_guard op o (kept_at o op.code (args_of o op.args) op.snapshot) going refl refl (going, refl) is refl;
+  rests = record { virtuals = refl; cache = refl; held = refl };
   to = refl;
   target = refl;
   forms = keeps_form_kept op o is;
   names = λ laws. names_tested op o (kept_at o op.code (args_of o op.args) op.snapshot) is refl;
+  pool = keeps_pool_kept op o;
 }
 
 pub keeps_kept : (op : Op) (o new : Pass) (args : List Arg) (frames : List Frame) → o.ended ≡ false → IsTested op.code → args ≡ args_of o op.args → frames ≡ op.snapshot → new ≡ kept_at o op.code args frames → KeepsAll op o new
@@ -169,10 +179,12 @@ keeps_skipped op o new going is always n = subst (KeepsAll op o) (sym n) (record
   counted = omega arith;
   checked = λ s. no_set op (inl is) s;
   printed = prints_nothing op o (skipped o) going refl refl (going, refl) (inr is) (ap (λ z. o.guard + counted z) (sym (ap guarding is)));
+  rests = record { virtuals = refl; cache = refl; held = refl };
   to = refl;
   target = refl;
   forms = keeps_form_skipped op o;
   names = λ laws. names_tested op o (skipped o) (inl is) refl;
+  pool = keeps_pool_skipped op o;
 })
 
 -- a guard that fails wherever its arguments have values
@@ -190,10 +202,12 @@ keeps_exited op o new going is never n = subst (KeepsAll op o) (sym n) (record {
   counted = omega arith;
   checked = λ s. no_set op (inl is) s;
   printed = prints_exit op o going is;
+  rests = record { virtuals = refl; cache = refl; held = refl };
   to = refl;
   target = refl;
   forms = keeps_form_exited op o (inl is);
   names = λ laws. names_tested op o (exited_at o op.snapshot) (inl is) refl;
+  pool = keeps_pool_exited op o;
 })
 
 pub keeps_dropped : (op : Op) (o new : Pass) → o.ended ≡ false → op.code ≡ code.GuardNoException → new ≡ skipped o → KeepsAll op o new
@@ -215,10 +229,12 @@ keeps_pre op o going pre is = record {
   counted = omega arith;
   checked = λ s. absurd (false_true (sym (ap sets_overflow is) ∙ s));
   printed = prints_jump op o going pre is;
+  rests = record { virtuals = refl; cache = refl; held = refl };
   to = refl;
   target = refl;
   forms = keeps_form_jump op o is;
   names = λ laws. names_ended op o (with_jump o (args_of o op.args)) refl refl;
+  pool = keeps_pool_jump op o;
 }
 
 keeps_body : (op : Op) (o : Pass) → o.ended ≡ false → o.to.half ≡ half.Body → part_of op.code ≡ part.Jump → KeepsAll op o (with_body o (passed_in o op.args))
@@ -234,11 +250,13 @@ keeps_body op o going body is = record {
   boxes = omega arith;
   counted = omega arith;
   checked = λ s. absurd (false_true (sym (ap sets_overflow is) ∙ s));
-  printed = prints_body op o going is;
+  printed = prints_body op o going body is;
+  rests = record { virtuals = refl; cache = refl; held = refl };
   to = refl;
   target = refl;
   forms = keeps_form_body op o body is;
   names = λ laws. names_ended op o (with_body o (passed_in o op.args)) refl refl;
+  pool = keeps_pool_body op o;
 }
 
 pub keeps_jump : (op : Op) (o new : Pass) → o.ended ≡ false → part_of op.code ≡ part.Jump → new ≡ jumped o op.args → KeepsAll op o new
@@ -262,8 +280,10 @@ keeps_finish op o new args value going is e f n = subst (KeepsAll op o) (sym (n 
   counted = omega arith;
   checked = λ s. absurd (false_true (sym (ap sets_overflow is) ∙ s));
   printed = prints_finish op o going is;
+  rests = record { virtuals = refl; cache = refl; held = refl };
   to = refl;
   target = refl;
   forms = keeps_form_finish op o is;
   names = λ laws. names_ended op o (with_finish o (slice_get (args_of o op.args) 0)) refl refl;
+  pool = keeps_pool_finish op o (slice_get (args_of o op.args) 0);
 })

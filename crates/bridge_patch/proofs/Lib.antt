@@ -8,3 +8,14 @@ pub mod Targets
 pub mod Building
 pub mod LayingAll
 pub mod Compiling
+pub mod Compiled
+pub mod Entering
+pub mod Coming
+pub mod Patching
+pub mod Behind
+pub mod Guards
+pub mod RowsOf
+pub mod Seating
+pub mod Fitting
+pub mod Allowed
+pub mod Repatched

@@ -99,6 +99,10 @@ words_from k (suc n) = Word k ∷ words_from (k + 1) n
 abbrev pub label_places : ℕ → List Place
 label_places n = words_from 16 n
 
+-- where the boxes of a piece's label stand
+abbrev pub label_at : Placed → List Place
+label_at pl = map (λ (b : BoxId). pl.setting.at b.number) pl.piece.label
+
 -- the instructions of a piece's operations do what they do wherever the boxes of its label stand at the label's places
 pub record IsChosen (set : TraceSet) (pl : Placed) : Type 0 where
   pub table : pl.setting.table ≡ set.table

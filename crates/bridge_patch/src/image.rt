@@ -1,19 +1,27 @@
 //! The image of a trace set.
 #![tactic(auto)]
 
-ghost use Rattle.std.specs.Prelude.{◌≡◌, ◌≢◌, ◌<◌, ◌^◌, [], length, IfOk, IfSome, IfNone};
+ghost use Rattle.std.specs.Prelude.{◌≡◌, ◌≢◌, ◌<◌, ◌^◌, List as Items, [], length, map, IfOk, IfErr, OnOk, OnErr, IfSome, IfNone};
 ghost use Rattle.std.specs.List.{All, Contains};
 ghost use Rattle.opt_meaning.specs.Pieces.{all_pieces, preamble};
 ghost use Rattle.bridge_patch.specs.declared.image.PieceHere.{PieceHere};
+ghost use Rattle.bridge_patch.specs.Pieces.{Placed};
 ghost use Rattle.bridge_patch.specs.Image.{CanCompile, IsImage, entry_in};
+ghost use Rattle.bridge_patch.specs.Bridged.{IsBridge, LacksParent, IsRefused};
+ghost use Rattle.bridge_patch.specs.Attached.{IsImageOf, AreOfBridge, CanAttach, IsChanged, IsGrown};
 
+use crate::attaching::patches;
+use crate::bridged::{Refusal, attachable, source_of};
+use crate::bridging::lay_out_bridge;
 use crate::flat::add_pieces;
 use crate::laying::{Laid, lay_out_all};
 use code_region::Region;
 use guard_exit::ExitRow;
+use linear_scan::boxes_live;
 use resume_numbering::ResumeTable;
 use std::alloc::{AllocError, Global};
 use std::marker::Model;
+use target_base::Place;
 use trace_ops::{Half, List, OptTrace, PieceId, TraceSet, same_piece_id};
 
 /// What the attachment of a bridge changed: the place and the number of the bytes that were appended, and for each patch
@@ -26,24 +34,27 @@ pub struct Change {
     pub patches: List<(u32, i32, i32)>,
 }
 
-/// A piece in the code: where it begins, where its first operation stands, and what its guards need to go on.
+/// A piece in the code: where what stands in front of it begins, where its first operation stands, the places of its label,
+/// and what its guards need to go on.
 #[derive(Debug, PartialEq, Eq, Hash, Drop)]
 pub struct PieceHere {
     pub id: PieceId,
     pub at: u32,
     pub start: u32,
+    pub label: List<Place>,
     pub table: ResumeTable,
 }
 
 /// The code of a set's pieces, with the rows of its exits.
 #[derive(Drop)]
 pub struct Image {
-    alloc: Global,
-    code: Region,
-    pieces: Vec<PieceHere>,
-    exits: Vec<ExitRow>,
-    attached: Vec<u32>,
-    changes: Vec<Change>,
+    pub(crate) alloc: Global,
+    pub(crate) registers: u8,
+    pub(crate) code: Region,
+    pub(crate) pieces: Vec<PieceHere>,
+    pub(crate) exits: Vec<ExitRow>,
+    pub(crate) attached: Vec<u32>,
+    pub(crate) changes: Vec<Change>,
 }
 
 impl Model for Image {
@@ -51,12 +62,13 @@ impl Model for Image {
 
     ghost Value = { Imaged };
 
-    ghost view = { λ m. record { bytes = m.code.bytes; pieces = m.pieces.items; exits = m.exits.items; attached = m.attached.items; changes = m.changes.items } };
+    ghost view = { λ m. record { registers = m.registers; bytes = m.code.bytes; pieces = m.pieces.items; exits = m.exits.items; attached = m.attached.items; changes = m.changes.items } };
 }
 
 // The image of code that is laid out, to which no bridge is attached.
-fn assembled(alloc: Global, laid: Laid) -> Result<Image, AllocError>
+fn assembled(alloc: Global, registers: u8, laid: Laid) -> Result<Image, AllocError>
     requires { length laid.bytes.items < 2 ^ 31 }
+    ensures registers { IfOk result (λ image. image.registers ≡ registers) }
     ensures bytes { IfOk result (λ image. image.bytes ≡ laid.bytes.items) }
     ensures pieces { IfOk result (λ image. image.pieces ≡ laid.pieces.items) }
     ensures exits { IfOk result (λ image. image.exits ≡ laid.exits.items) }
@@ -69,6 +81,7 @@ fn assembled(alloc: Global, laid: Laid) -> Result<Image, AllocError>
     let Laid { exits, pieces, .. } = laid;
     Ok(Image {
         alloc,
+        registers,
         code,
         pieces,
         exits,
@@ -89,6 +102,8 @@ impl Image {
     ) -> Result<Image, AllocError>
         requires { CanCompile set.now loops.now registers }
         ensures image { IfOk result (λ image. IsImage set.now (all_pieces loops.now) image) }
+        ensures placed { IfOk result (λ image. (placed : Items Placed) × (map (λ (pl : Placed). pl.piece) placed ≡ all_pieces loops.now) × IsImageOf set.now placed image) }
+        ensures registers { IfOk result (λ image. image.registers ≡ registers) }
         ensures attached { IfOk result (λ image. image.attached ≡ []) }
         ensures changes { IfOk result (λ image. image.changes ≡ []) }
     {
@@ -97,8 +112,43 @@ impl Image {
             add_pieces(&mut pieces, one.pieces.items())?;
         }
         let laid = lay_out_all(alloc, set, &pieces, registers)?;
-        let image = assembled(alloc, laid)?;
+        let image = assembled(alloc, registers, laid)?;
         Ok(image)
+    }
+
+    /// Whether a bridge of the set may be attached: it isn't attached yet, and its parent is a loop or an attached bridge. The set
+    /// is the one that was compiled.
+    pub fn attachable(&self, set: &TraceSet, bridge: u32) -> Result<(), Refusal>
+        requires { IsBridge set.now bridge }
+        ensures ok { IfOk result (λ u. (¬ Contains self.now.attached bridge) × (¬ LacksParent set.now self.now.attached bridge)) }
+        ensures err { IfErr result (λ e. IsRefused set.now self.now.attached bridge e) }
+    {
+        attachable(&self.attached, set, bridge)
+    }
+
+    /// Attaches the pieces of a bridge: their code is appended, and each copy of the guard is patched to lead in front of the piece of
+    /// its half, where the guard's boxes are moved to the places of the label. The set is the one that was compiled, and the bridge is
+    /// [`Image::attachable`]; there is one sound piece for each half in which the guard is kept, whose label has the guard's boxes,
+    /// and each piece to which one of them jumps is in the image. All memory is taken first: where it is refused, the image is as
+    /// before.
+    pub fn attach(&mut self, set: &TraceSet, bridge: u32, opt: &OptTrace) -> Result<(), AllocError>
+        requires { CanAttach set.now self.old bridge opt.now.pieces }
+        ensures changed { OnOk result (IsChanged set.now bridge opt.now.pieces self.old self.new) }
+        ensures placed { OnOk result ((placed : Items Placed) → IsImageOf set.now placed self.old → AreOfBridge set.now placed bridge opt.now.pieces → IsGrown set.now bridge opt.now.pieces placed self.old self.new) }
+        ensures err { OnErr result (self.new ≡ self.old) }
+    {
+        boxes_live();
+        let source = source_of(set, bridge);
+        let laid = lay_out_bridge(self, set, source, opt.pieces.items())?;
+        let patches = patches(
+            self.alloc,
+            &self.code,
+            &self.exits,
+            source,
+            bridge,
+            &laid.pieces,
+        )?;
+        self.extend(bridge, laid, patches)
     }
 
     /// The code: the common exit, and behind it the pieces.

@@ -1,6 +1,10 @@
 //! The image of a trace set: the code of its pieces, with exits, under patches.
 #![tactic(auto)]
 
+mod attaching;
+mod bridged;
+mod bridging;
+mod entry;
 mod flat;
 mod image;
 mod laying;
@@ -9,4 +13,5 @@ mod plan;
 mod planning;
 mod rows;
 
+pub use bridged::Refusal;
 pub use image::{Change, Image, PieceHere};

@@ -1,0 +1,4 @@
+pub mod Sessions
+pub mod Calls
+pub mod Viewed
+pub mod Outcomes

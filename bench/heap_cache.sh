@@ -1,5 +1,6 @@
 #!/bin/sh
-# How many reads a second a cache with 10,000 known spots answers, on one core, in a built program.
+# How many reads a second a cache with 10,000 known spots answers, and how long late stores, flushes, reads and notes of
+# 8,000 and of 1,000 objects take: with a spot for each, and with 16 fields for all; on one core, in a built program.
 # A copy of the two crates and a small program over them are made in a temporary folder, built by rt and run there.
 # Needs rt. Usage: bench/heap_cache.sh [READS]
 set -eu
@@ -55,12 +56,58 @@ fn read_all(cache: &Cache, reads: u32) -> i64 {
     seen
 }
 
+// Late stores, a spot for each, and reads of them.
+fn apart(alloc: Global, objects: u32) -> Result<usize, AllocError> {
+    let mut cache = Cache::new(alloc)?;
+    let mut seen = 0;
+    for n in 0..objects {
+        let spot = Spot::Field(n);
+        seen |= cache.flush([spot].as_slice())?.len();
+        seen |= cache.write_late(base(n), spot, Val::Known(Arg::Const(n as i64)))?.len();
+        if cache.read(base(n), spot).is_none() {
+            seen |= 1;
+        }
+    }
+    Ok(seen)
+}
+
+// Of each object an item that is only read, and a field that is read and written, one of 16.
+fn shared(alloc: Global, objects: u32) -> Result<usize, AllocError> {
+    let mut cache = Cache::new(alloc)?;
+    let mut seen = 0;
+    for n in 0..objects {
+        let object = Arg::Of(BoxId {
+            kind: Kind::Ref,
+            number: n,
+        });
+        let value = Val::Known(Arg::Const(n as i64));
+        let field = Spot::Field(n % 16);
+        cache.note(object, Spot::Item(0, 1), value)?;
+        seen |= cache.flush([field].as_slice())?.len();
+        if cache.read(object, field).is_none() {
+            cache.note(object, field, value)?;
+        }
+        seen |= cache.write_late(object, field, value)?.len();
+    }
+    Ok(seen)
+}
+
 fn main(rt: HostRuntime) -> Result<()> {
     let cache = filled(rt.alloc())?;
     let start = Instant::now(&rt)?;
     let seen = read_all(&cache, READS);
     let took = start.elapsed(&rt)?;
     println!(rt; "READS reads in {took:?}, seen {seen}")?;
+    for objects in [1_000u32, 8_000] {
+        let start = Instant::now(&rt)?;
+        let seen = apart(rt.alloc(), objects)?;
+        let took = start.elapsed(&rt)?;
+        println!(rt; "{objects} objects, a spot for each: {took:?}, seen {seen}")?;
+        let start = Instant::now(&rt)?;
+        let seen = shared(rt.alloc(), objects)?;
+        let took = start.elapsed(&rt)?;
+        println!(rt; "{objects} objects, 16 fields: {took:?}, seen {seen}")?;
+    }
     Ok(())
 }
 EOF

@@ -42,6 +42,7 @@ use Rattle.opt_pass.specs.State.{next_box}
 use Rattle.opt_pass.specs.Rising.{counted}
 use Rattle.opt_pass.specs.Forming.{KeepsNames}
 use Rattle.opt_pass.proofs.Shaping.{keeps_form_plain, keeps_form_kept, keeps_form_skipped, keeps_form_exited, keeps_form_jump, keeps_form_body, keeps_form_finish}
+use Rattle.opt_pass.proofs.Pooled.{keeps_pool_plain, keeps_pool_kept, keeps_pool_exited, keeps_pool_skipped, keeps_pool_jump, keeps_pool_body, keeps_pool_finish}
 use Rattle.opt_pass.proofs.Naming.{names_tested, names_ended, names_given, names_none}
 
 pub ok_by : {T E X : Type 0} (r : Result T E) (x y : X) (Q : Type 0) → (x ≡ y → Q) → OnOk r (x ≡ y) → OnOk r Q
@@ -109,6 +110,7 @@ keeps_plain_now op o going is =
       target = f.6;
       forms = keeps_form_plain op o is;
       names = λ laws. plain_names laws op.result refl;
+      pool = keeps_pool_plain op o;
     }
   where
     plain_names : (laws : Laws) (to : Option BoxId) → op.result ≡ to → KeepsNames op o (with_plain o op.code op.result (args_of o op.args) op.descr)
@@ -149,6 +151,7 @@ keeps_kept_now op o going is = record {
   target = refl;
   forms = keeps_form_kept op o is;
   names = λ laws. names_tested op o (kept_at o op.code (args_of o op.args) op.snapshot) is refl;
+  pool = keeps_pool_kept op o;
 }
 
 pub keeps_kept : (op : Op) (o new : Pass) (args : List Arg) (frames : List Frame) → o.ended ≡ false → IsTested op.code → args ≡ args_of o op.args → frames ≡ op.snapshot → new ≡ kept_at o op.code args frames → KeepsAll op o new
@@ -173,6 +176,7 @@ keeps_skipped op o new going is always n = subst (KeepsAll op o) (sym n) (record
   target = refl;
   forms = keeps_form_skipped op o;
   names = λ laws. names_tested op o (skipped o) (inl is) refl;
+  pool = keeps_pool_skipped op o;
 })
 
 -- a guard that fails wherever its arguments have values
@@ -194,6 +198,7 @@ keeps_exited op o new going is never n = subst (KeepsAll op o) (sym n) (record {
   target = refl;
   forms = keeps_form_exited op o (inl is);
   names = λ laws. names_tested op o (exited_at o op.snapshot) (inl is) refl;
+  pool = keeps_pool_exited op o;
 })
 
 pub keeps_dropped : (op : Op) (o new : Pass) → o.ended ≡ false → op.code ≡ code.GuardNoException → new ≡ skipped o → KeepsAll op o new
@@ -219,6 +224,7 @@ keeps_pre op o going pre is = record {
   target = refl;
   forms = keeps_form_jump op o is;
   names = λ laws. names_ended op o (with_jump o (args_of o op.args)) refl refl;
+  pool = keeps_pool_jump op o;
 }
 
 keeps_body : (op : Op) (o : Pass) → o.ended ≡ false → o.to.half ≡ half.Body → part_of op.code ≡ part.Jump → KeepsAll op o (with_body o (passed_in o op.args))
@@ -234,11 +240,12 @@ keeps_body op o going body is = record {
   boxes = omega arith;
   counted = omega arith;
   checked = λ s. absurd (false_true (sym (ap sets_overflow is) ∙ s));
-  printed = prints_body op o going is;
+  printed = prints_body op o going body is;
   to = refl;
   target = refl;
   forms = keeps_form_body op o body is;
   names = λ laws. names_ended op o (with_body o (passed_in o op.args)) refl refl;
+  pool = keeps_pool_body op o;
 }
 
 pub keeps_jump : (op : Op) (o new : Pass) → o.ended ≡ false → part_of op.code ≡ part.Jump → new ≡ jumped o op.args → KeepsAll op o new
@@ -266,4 +273,5 @@ keeps_finish op o new args value going is e f n = subst (KeepsAll op o) (sym (n 
   target = refl;
   forms = keeps_form_finish op o is;
   names = λ laws. names_ended op o (with_finish o (slice_get (args_of o op.args) 0)) refl refl;
+  pool = keeps_pool_finish op o (slice_get (args_of o op.args) 0);
 })

@@ -282,6 +282,7 @@ module _ (laws : Laws) (set : TraceSet) (inputs : List BoxId) (ops : List Op) (e
     named = λ going b has. inputs_there inputs e.values [] b r.values (inl (subst (λ z. Has z b) (no_more inputs) has));
     guards = subst (AllByRecursion (λ g. g < 0)) (sym entry_guards) tt;
     once = subst IsOnce (sym entry_guards) tt;
+    slots = tt;
     guard = λ going. refl;
     last = false;
     pairs = makings_pairs (length e.label) 0 e.shapes (map storing (stores_entered t e)) (stores_pairs (stores_entered t e));

@@ -1,7 +1,7 @@
 -- One operation more, built.
 use Rattle.std.proofs.Common.{◌≡◌, ℕ, zero, suc, ◌+◌, ◌<◌, ◌≤◌, Bool, true, false, cond, List, [], ◌∷◌, ◌++◌, Option, Some, None, length, map, take, slice_get, refl, sym, ap, ◌∙◌, subst, append_assoc, arith, ◌⊎◌, inl, inr}
 use Rattle.std.specs.Prelude.{IsSome}
-use Rattle.std.specs.Option.{option_to_list}
+use Rattle.std.specs.Option.{option_to_list, IsSomeAnd}
 use Rattle.std.specs.List.{AllByRecursion, flat_map, sum_by, count_by}
 use Rattle.std.proofs.lemmas.List.Sums.{sum_by-cons, sum_by-append}
 use Rattle.trace_ops.specs.declared.trace.BoxId.{BoxId}
@@ -16,16 +16,24 @@ use Rattle.trace_ops.specs.Lawful.{AreDistinct}
 use Rattle.trace_ops.specs.Parts.{boxes_of_arg}
 use Rattle.trace_ops.specs.Pieces.{guards_of, sets_overflow, tests_overflow, is_end}
 use Rattle.trace_ops.specs.Rules.{boxes_in}
+use Rattle.trace_ops.specs.declared.piece.Entry.{Entry}
+use Rattle.trace_ops.specs.Kinds.{kind_of_arg, kind_of_val}
 use Rattle.trace_meaning.specs.Recorded.{slots_of}
+use Rattle.trace_meaning.specs.Observed.{guard_in}
+use Rattle.opt_meaning.specs.Admits.{slots_of as kept_slots}
 use Rattle.lists.specs.Has.{Has, IsOnce}
 use Rattle.lists.proofs.Eaches.{each_weaker, each_append, each_parts}
 use Rattle.lists.proofs.Membership.{has_cases}
 use Rattle.opt_pass.specs.declared.state.Pass.{Pass}
 use Rattle.opt_pass.specs.Laws.{Laws}
-use Rattle.opt_pass.specs.Tables.{Names, name_in}
-use Rattle.opt_pass.specs.Keeping.{Printed, KeepsAll, IsRight, IsEnding, IsEndingBy}
+use Rattle.opt_pass.specs.Tables.{Names, name_in, meant}
+use Rattle.opt_pass.specs.State.{slot_val, opt_frame}
+use Rattle.opt_pass.specs.Recording.{HasSlotsOf, HaveSlots}
+use Rattle.opt_pass.proofs.Becoming.{meant_args, kinds_kept}
+use Rattle.opt_pass.proofs.Framing.{guard_at}
+use Rattle.opt_pass.specs.Keeping.{IsLeftAt, Printed, KeepsAll, IsRight, IsEnding, IsEndingBy}
 use Rattle.opt_pass.specs.Rising.{counted, Pairs, sets_behind, IsPairOf}
-use Rattle.opt_pass.specs.Forming.{Forms, IsRuled, IsScoped, HasNames}
+use Rattle.opt_pass.specs.Forming.{Forms, IsRuled, IsScoped, HasNames, defined_in}
 use Rattle.opt_pass.specs.Building.{given_by, guards_in, Built}
 use Rattle.opt_pass.proofs.Snapping.{flat_both, no_more}
 use Rattle.opt_pass.proofs.Rising.{pairs_push, behind_push, once_more}
@@ -76,6 +84,24 @@ slots_flat : (frames : List Frame) → flat_map (λ (f : Frame). flat_map boxes_
 slots_flat [] = refl
 slots_flat (f ∷ frames) = ap (λ z. flat_map boxes_of_arg f.slots ++ z) (slots_flat frames) ∙ sym (flat_both boxes_of_arg f.slots (slots_of frames))
 
+map_both : {X Y : Type 0} (f : X → Y) (xs ys : List X) → map f (xs ++ ys) ≡ map f xs ++ map f ys
+map_both f [] ys = refl
+map_both f (x ∷ xs) ys = ap (λ z. f x ∷ z) (map_both f xs ys)
+
+vals_kinds : (names forward : Names) (xs : List Arg) → map kind_of_val (map (slot_val names forward) xs) ≡ map kind_of_arg (map (meant names forward) xs)
+vals_kinds names forward [] = refl
+vals_kinds names forward (x ∷ xs) = ap (λ z. kind_of_arg (meant names forward x) ∷ z) (vals_kinds names forward xs)
+
+-- what is kept of slots has the kinds of what they stand for
+slots_kinds : (names forward : Names) (frames : List Frame) → map kind_of_val (kept_slots (map (opt_frame names forward) frames)) ≡ map kind_of_arg (map (meant names forward) (slots_of frames))
+slots_kinds names forward [] = refl
+slots_kinds names forward (f ∷ frames) =
+    map_both kind_of_val (map (slot_val names forward) f.slots) (kept_slots (map (opt_frame names forward) frames))
+    ∙ ap (λ z. z ++ map kind_of_val (kept_slots (map (opt_frame names forward) frames))) (vals_kinds names forward f.slots)
+    ∙ ap (λ z. map kind_of_arg (map (meant names forward) f.slots) ++ z) (slots_kinds names forward frames)
+    ∙ sym (map_both kind_of_arg (map (meant names forward) f.slots) (map (meant names forward) (slots_of frames)))
+    ∙ ap (map kind_of_arg) (sym (map_both (meant names forward) f.slots (slots_of frames)))
+
 scope_of : (names : Names) (known : List BoxId) (op : Op) → ((b : BoxId) → Has known b → IsSome (name_in names b)) → AllByRecursion (Has known) (boxes_in op) → IsScoped names op
 scope_of names known op w h =
     let s = each_parts (λ (b : BoxId). IsSome (name_in names b)) (flat_map boxes_of_arg op.args) (flat_map (λ (f : Frame). flat_map boxes_of_arg f.slots) op.snapshot) (each_weaker (Has known) (λ (b : BoxId). IsSome (name_in names b)) w (boxes_in op) h) in
@@ -97,9 +123,9 @@ given_more inputs ops n op b split h = by (has_cases (given_by inputs (take n op
     by (inr k) = inr (result_here op.result b k)
 
 pub built_more : (laws : Laws) (set : TraceSet) (label inputs : List BoxId) (ops : List Op) (n : ℕ) (op : Op) (old new : Pass) → take (n + 1) ops ≡ take n ops ++ op ∷ []
-    → AreDistinct old.target → IsRight set.table old.target op → IsRuled set.table op → AllByRecursion (Has (given_by inputs (take n ops))) (boxes_in op) → reads_overflow op.code ≡ sets_behind (take n ops)
+    → AreDistinct old.target → IsRight set.table old.target op → IsRuled set.table op → slice_get ops n ≡ Some op → AllByRecursion (Has (given_by inputs (take n ops))) (boxes_in op) → reads_overflow op.code ≡ sets_behind (take n ops)
     → Built set label inputs ops n old → KeepsAll op old new → Built set label inputs ops (n + 1) new
-built_more laws set label inputs ops n op old new split apart right ruled scoped tested h k =
+built_more laws set label inputs ops n op old new split apart right ruled at scoped tested h k =
     let p : Printed op old new = k.printed in
     let pair : Paired ops (n + 1) new = one_pair ops n op old new h.last split h.pairs (h.goes p.going) tested p.more p.ops p.pairs p.ending in
     let count : guards_in (take (n + 1) ops) ≡ guards_in (take n ops) + counted (is_guard op.code) = ap guards_in split ∙ sum_by-append (λ (x : Op). counted (is_guard x.code)) (take n ops) (op ∷ []) ∙ ap (λ z. guards_in (take n ops) + z) (one op) in
@@ -113,6 +139,7 @@ built_more laws set label inputs ops n op old new split apart right ruled scoped
       named = λ going b has. elim (given_more inputs ops n op b split has) [ inl w ↦ (k.names laws).0 b (h.named p.going b w) | inr w ↦ (k.names laws).1 going ruled.gives b w ];
       guards = subst (AllByRecursion (λ g. g < guards_in (take (n + 1) ops))) (sym same) (subst (λ c. AllByRecursion (λ g. g < c) (flat_map guards_of old.ops ++ flat_map guards_of p.more)) (sym count) (each_append (λ g. g < guards_in (take n ops) + counted (is_guard op.code)) (flat_map guards_of old.ops) (flat_map guards_of p.more) early late));
       once = subst IsOnce (sym same) (once_more (guards_in (take n ops)) (flat_map guards_of old.ops) (flat_map guards_of p.more) (few (is_guard op.code) p.numbered) numbers h.guards h.once);
+      slots = subst (HaveSlots ops) (sym p.guards) (each_append (HasSlotsOf ops) old.guards p.late h.slots (each_weaker (IsLeftAt op old) (HasSlotsOf ops) (left own) p.late p.slots));
       guard = λ going. p.guard going ∙ ap (λ z. z + counted (is_guard op.code)) own ∙ sym count;
       last = pair.last;
       pairs = pair.pairs;
@@ -120,6 +147,16 @@ built_more laws set label inputs ops n op old new split apart right ruled scoped
       ends = pair.ends;
     }
   where
+    slots_meant : map kind_of_arg (map (meant old.names old.forward) (slots_of op.snapshot)) ≡ map kind_of_arg (slots_of op.snapshot)
+    slots_meant =
+        kinds_kept set.table (defined_in label old) old.names old.forward h.forms.names h.forms.forward (slots_of op.snapshot)
+        (meant_args set.table (defined_in label old) old.names old.forward h.forms.names h.forms.forward (slots_of op.snapshot) ruled.slots (scope_of old.names (given_by inputs (take n ops)) op (h.named k.printed.going) scoped).slots)
+
+    left : old.guard ≡ guards_in (take n ops) → (y : ℕ × Entry) → IsLeftAt op old y → HasSlotsOf ops y
+    left own y w =
+        subst (λ z. IsSomeAnd z (λ (q : Op). map kind_of_val y.1.values ≡ map kind_of_arg (slots_of q.snapshot))) (sym (ap (guard_in ops) (w.0 ∙ own) ∙ guard_at ops n op at w.1))
+        (ap (map kind_of_val) w.2 ∙ slots_kinds old.names old.forward op.snapshot ∙ slots_meant)
+
     one : (x : Op) → sum_by (λ (y : Op). counted (is_guard y.code)) (x ∷ []) ≡ counted (is_guard x.code)
     one x = let c : sum_by (λ (y : Op). counted (is_guard y.code)) (x ∷ []) ≡ counted (is_guard x.code) + 0 = sum_by-cons (λ (y : Op). counted (is_guard y.code)) x [] in omega (arith, c)
 

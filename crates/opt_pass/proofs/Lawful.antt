@@ -16,6 +16,7 @@ use Rattle.trace_ops.specs.declared.trace.Op.{Op}
 use Rattle.trace_ops.specs.declared.table.Table.{Table}
 use Rattle.trace_ops.specs.declared.piece.PieceId.{PieceId}
 use Rattle.trace_ops.specs.declared.piece.OptOp.{OptOp}
+use Rattle.trace_ops.specs.declared.piece.OptOp.TheVariants as opt
 use Rattle.trace_ops.specs.declared.piece.Entry.{Entry}
 use Rattle.trace_ops.specs.Facts.{part_of}
 use Rattle.trace_ops.specs.Classes.{is_overflowing}
@@ -28,9 +29,9 @@ use Rattle.opt_meaning.specs.Step.{opt_step, opt_begin}
 use Rattle.opt_meaning.specs.Admits.{plain_entry}
 use Rattle.opt_meaning.specs.Leaving.{SameLeave}
 use Rattle.lists.proofs.Options.{some_same, none_some}
-use Rattle.lists.proofs.Eaches.{each_weaker as all_weaker, each_append as all_append}
+use Rattle.lists.proofs.Eaches.{each_at, each_weaker as all_weaker, each_append as all_append}
 use Rattle.opt_pass.specs.Keeping.{IsThere, HasKind, EndsRightly, IsRight, sets_overflow}
-use Rattle.std.specs.Prelude.{◌-◌, unwrap_or}
+use Rattle.std.specs.Prelude.{◌-◌, ◌*◌, unwrap_or}
 use Rattle.std.specs.List.{All}
 use Rattle.std.specs.Option.{IsSomeAnd}
 use Rattle.std.proofs.lemmas.List.Elements.{recursion_from_All}
@@ -50,17 +51,24 @@ use Rattle.trace_meaning.specs.Recorded.{inputs_of, ops_of, ops_at, last_of, jum
 use Rattle.opt_meaning.specs.Leaving.{Simulates}
 use Rattle.trace_ops.specs.declared.piece.Piece.{Piece}
 use Rattle.opt_pass.specs.declared.state.Pass.{Pass}
-use Rattle.opt_pass.specs.Contract.{JumpsTo, IsOf, EndsWith, IsSmall, shape_cost, store_cost, cost_of}
+use Rattle.lists.specs.Has.{Has as HasItem}
+use Rattle.opt_pass.specs.Counting.{constants_of, AreFewMore, AddsFewConstants}
+use Rattle.opt_pass.specs.Pooling.{brought, HasPool}
+use Rattle.opt_pass.proofs.Counted.{few_more}
+use Rattle.opt_pass.proofs.Brought.{brought_weight, brought_some}
+use Rattle.opt_pass.proofs.Sizing.{entries_fit}
+use Rattle.opt_pass.specs.Contract.{JumpsTo, IsOf, EndsWith, HasFramesOf, IsSmall, shape_cost, store_cost, cost_of}
 use Rattle.std.specs.Prelude.{◌<◌, ◌++◌}
 use Rattle.std.specs.List.{flat_map, sum_by}
 use Rattle.std.proofs.lemmas.List.{length-append}
 use Rattle.std.proofs.lemmas.List.Sums.{sum_by-cons}
 use Rattle.lists.proofs.Places.{get_some}
-use Rattle.trace_ops.specs.Pieces.{results_of}
+use Rattle.trace_ops.specs.Pieces.{results_of, snapshots_of}
 use Rattle.trace_ops.specs.Weights.{operation_weight, own_of, own_weight}
 use Rattle.opt_pass.specs.Starting.{numbered_from}
 use Rattle.trace_meaning.specs.Keeping.{LegsKeepKinds}
-use Rattle.opt_pass.specs.Keeping.{ArePaired, CanEnter, AreRight, IsMade, IsBare, weight_from, EndsLast, IsBuilt, IsDone}
+use Rattle.opt_pass.specs.Recording.{HaveSlots, JumpsWithTrace}
+use Rattle.opt_pass.specs.Keeping.{IsOfJump, ArePaired, CanEnter, AreRight, IsMade, IsBare, weight_from, EndsLast, IsBuilt, IsDone}
 use Rattle.std.specs.Prelude.{nat_eq, cond}
 use Rattle.trace_ops.specs.declared.table.SizeRow.{SizeRow}
 use Rattle.trace_ops.specs.declared.table.FieldRow.{FieldRow}
@@ -72,7 +80,7 @@ use Rattle.trace_meaning.specs.Objects.{listed, fields_of}
 use Rattle.heap_shape.specs.Visiting.{Has, IsOnce}
 use Rattle.opt_pass.specs.Laws.{Laws}
 use Rattle.trace_ops.specs.Pieces.{guards_of}
-use Rattle.trace_ops.specs.Sound.{guards_in, IsFormed}
+use Rattle.trace_ops.specs.Sound.{guards_in, constants_in, IsFormed}
 use Rattle.opt_pass.specs.Building.{AreRuled, guards_in as guards_in_ops}
 use Rattle.opt_pass.specs.Inputs.{HasInputs, AreLawful}
 use Rattle.opt_pass.proofs.Ruled.{all_ruled}
@@ -299,12 +307,29 @@ weight_set : (sizes : List SizeRow) (x : Option Trace) → weight_from (ops_of x
 weight_set sizes None = omega arith
 weight_set sizes (Some t) = weight_own sizes t.ops
 
+brought_set : (sizes : List SizeRow) (x : Option Trace) → brought (ops_of x) ≤ own_of sizes x
+brought_set sizes None = omega arith
+brought_set sizes (Some t) = brought_weight sizes t.ops
+
 bare_cost : (e : Entry) → IsBare e → cost_of e ≡ 0
 bare_cost e h = ap (λ z. sum_by shape_cost z + sum_by store_cost e.pending) h.0 ∙ ap (λ z. 0 + sum_by store_cost z) h.1
 
 bare_costs : (n : ℕ) (guards : List (ℕ × Entry)) → AllByRecursion (λ x. IsBare x.1) guards → AllByRecursion (λ x. cost_of x.1 ≤ n) guards
 bare_costs n [] h = tt
 bare_costs n (x ∷ xs) h = let none : cost_of x.1 ≡ 0 = bare_cost x.1 h.0 in (omega (arith, none), bare_costs n xs h.1)
+
+no_operations : (k : ℕ) (op : Op) → slice_get (ops_of None) k ≡ Some op → ⊥
+no_operations k op e = none_some e
+
+-- a jump of a well-formed trace stands last
+last_jumps : (set : TraceSet) → IsWellFormed set → (p k : ℕ) (op : Op) (o : Option Trace) → slice_get set.traces p ≡ o → slice_get (ops_of (slice_get set.traces p)) k ≡ Some op → part_of op.code ≡ part.Jump
+    → (x : Op) × (last_of (ops_of (slice_get set.traces p)) ≡ Some x) × (part_of x.code ≡ part.Jump)
+last_jumps set formed p k op None at e j = absurd (no_operations k op (ap (λ (z : Option Trace). slice_get (ops_of z) k) (sym at) ∙ e))
+last_jumps set formed p k op (Some t) at e j =
+    let here : slice_get t.ops k ≡ Some op = ap (λ (z : Option Trace). slice_get (ops_of z) k) (sym at) ∙ e in
+    let last : k + 1 ≡ length t.ops = (formed.ends_at_end p t at k op here).0 (ap ends j) in
+    let same : length t.ops - 1 ≡ k = omega (arith, last) in
+    (op, ap (λ (z : Option Trace). last_of (ops_of z)) at ∙ ap (slice_get t.ops) same ∙ here, j)
 
 numbered_kinds : (bs : List BoxId) (n : ℕ) → map (λ (b : BoxId). b.kind) (numbered_from bs n) ≡ map (λ (b : BoxId). b.kind) bs
 numbered_kinds [] n = refl
@@ -321,23 +346,8 @@ module _ (set : TraceSet) (id : PieceId) (to : PieceId) (e : Entry) (s : TraceSe
   pub made_of_entry : IsOf id e (record { id = id; label = label; ops = o.ops })
   made_of_entry = record { name = refl; label = ap (map (λ (b : BoxId). b.kind)) l ∙ numbered_kinds items 0 ∙ ap (map (λ (b : BoxId). b.kind)) it }
 
-  pub made_ends : IsWellFormed set → id.trace < length set.traces → EndsWith to o.at_end o.ops
-  made_ends formed lt = m.shows.ending (subst EndsLast (sym its_ops) (last_ends set formed id.trace lt))
-
-  pub made_small : IsSmall set id.trace e (record { id = id; label = label; ops = o.ops }) o.guards o.at_end
-  made_small =
-      let own : weight_from (ops_at set id.trace) ≤ own_weight set id.trace = weight_set set.table.sizes (slice_get set.traces id.trace) in
-      let same : weight_from ops ≡ weight_from (ops_at set id.trace) = ap weight_from its_ops in
-      let long : length ops ≡ length (ops_at set id.trace) = ap length its_ops in
-      let none : cost_of o.at_end ≡ 0 = bare_cost o.at_end m.shows.bare in
-      let shapes : length o.at_end.shapes ≡ 0 = ap length m.shows.bare.0 in
-      let labels : length label ≡ length e.label = ap length l ∙ numbered_long items 0 ∙ ap length it in
-      let all : length (label ++ flat_map results_of o.ops) ≡ length label + length (flat_map results_of o.ops) = length-append label (flat_map results_of o.ops) in
-      record {
-        size = omega (arith, own, same, none, m.shows.small);
-        guards = bare_costs (own_weight set id.trace + cost_of e) o.guards m.shows.held;
-        boxes = omega (arith, long, shapes, labels, all, m.shows.boxes);
-      }
+  pub made_ends : IsWellFormed set → id.trace < length set.traces → target ≡ inputs_of (slice_get s.traces to.trace) → EndsWith to (inputs_of (slice_get set.traces to.trace)) o.at_end o.ops
+  made_ends formed lt g = subst (λ z. EndsWith to z o.at_end o.ops) (g ∙ ap (λ z. inputs_of (slice_get z.traces to.trace)) is) (m.shows.ending (subst EndsLast (sym its_ops) (last_ends set formed id.trace lt)))
 
   pub made_simulates : (laws : Laws) → IsInRange set → IsWellFormed set → JumpsTo set id.trace to.trace → IsLawful set e → inputs ≡ inputs_of (slice_get s.traces id.trace) → target ≡ inputs_of (slice_get s.traces to.trace) → LegsKeepKinds set id.trace
       → Simulates set id.trace e (record { id = id; label = label; ops = o.ops }) o.guards o.at_end
@@ -358,6 +368,57 @@ module _ (set : TraceSet) (id : PieceId) (to : PieceId) (e : Entry) (s : TraceSe
       let b : IsBuilt set to target (numbered_from e.label 0) ops o = m.built laws right set (sym (ap (λ (z : TraceSet). z.table) is)) ruled in
       subst (λ z. IsBuilt set to z (numbered_from e.label 0) (ops_at set id.trace) o) g2 (subst (λ z. IsBuilt set to target (numbered_from e.label 0) z o) its_ops b)
 
+  pub made_small : (laws : Laws) → IsInRange set → IsWellFormed set → JumpsTo set id.trace to.trace → IsLawful set e → map kind_of_val e.values ≡ map (λ (b : BoxId). Some b.kind) (inputs_of (slice_get set.traces id.trace)) → inputs ≡ inputs_of (slice_get s.traces id.trace) → target ≡ inputs_of (slice_get s.traces to.trace)
+      → IsSmall set id.trace e (record { id = id; label = label; ops = o.ops }) o.guards o.at_end
+  made_small laws ranged formed aims lawful values i g =
+      let b = built_now laws ranged formed aims lawful values i g in
+      let own : weight_from (ops_at set id.trace) ≤ own_weight set id.trace = weight_set set.table.sizes (slice_get set.traces id.trace) in
+      let same : weight_from ops ≡ weight_from (ops_at set id.trace) = ap weight_from its_ops in
+      let long : length ops ≡ length (ops_at set id.trace) = ap length its_ops in
+      let none : cost_of o.at_end ≡ 0 = bare_cost o.at_end m.shows.bare in
+      let shapes : length o.at_end.shapes ≡ 0 = ap length m.shows.bare.0 in
+      let labels : length label ≡ length e.label = ap length l ∙ numbered_long items 0 ∙ ap length it in
+      let all : length (label ++ flat_map results_of o.ops) ≡ length label + length (flat_map results_of o.ops) = length-append label (flat_map results_of o.ops) in
+      let number : length (numbered_from e.label 0) ≡ length e.label = numbered_long e.label 0 in
+      let defined : length (numbered_from e.label 0 ++ flat_map results_of o.ops) ≡ length (numbered_from e.label 0) + length (flat_map results_of o.ops) = length-append (numbered_from e.label 0) (flat_map results_of o.ops) in
+      let boxes : length (flat_map results_of o.ops) ≤ length e.shapes + length ops = m.shows.boxes in
+      record {
+        size = omega (arith, own, same, none, m.shows.small);
+        guards = bare_costs (own_weight set id.trace + cost_of e) o.guards m.shows.held;
+        boxes = omega (arith, long, shapes, labels, all, m.shows.boxes);
+        labels = all_weaker (λ (x : ℕ × Entry). length x.1.label + length x.1.shapes ≤ length (numbered_from e.label 0 ++ flat_map results_of o.ops)) (λ (x : ℕ × Entry). length x.1.label + length x.1.shapes ≤ length e.label + length e.shapes + length (ops_at set id.trace))
+            (λ x le. omega (arith, le, long, number, defined, boxes)) o.guards (entries_fit set o.to o.target (numbered_from e.label 0) o.ops o.guards b.forms.ops m.shows.entries b.forms.bridges m.shows.held);
+      }
+
+  pub made_frames : HasFramesOf (ops_at set id.trace) o.ops
+  made_frames = subst (λ z. HasFramesOf z o.ops) its_ops m.shows.frames
+
+  pub made_slots : (laws : Laws) → IsInRange set → IsWellFormed set → JumpsTo set id.trace to.trace → IsLawful set e → map kind_of_val e.values ≡ map (λ (b : BoxId). Some b.kind) (inputs_of (slice_get set.traces id.trace)) → inputs ≡ inputs_of (slice_get s.traces id.trace) → target ≡ inputs_of (slice_get s.traces to.trace)
+      → HaveSlots (ops_at set id.trace) o.guards
+  made_slots laws ranged formed aims lawful values i g = (built_now laws ranged formed aims lawful values i g).slots
+
+  pub made_jumps : IsWellFormed set → JumpsWithTrace (ops_at set id.trace) o.ops
+  made_jumps formed to args e =
+      let h : IsOfJump ops (opt.Jump to args) = each_at (IsOfJump ops) o.ops (length o.ops - 1) (opt.Jump to args) m.shows.jumps e in
+      let at : slice_get (ops_at set id.trace) h.0 ≡ Some h.1 = ap (λ z. slice_get z h.0) (sym its_ops) ∙ h.2 in
+      last_jumps set formed id.trace h.0 h.1 (slice_get set.traces id.trace) refl at h.3
+
+  pub made_constants : Laws → IsWellFormed set → id.trace < length set.traces → AddsFewConstants set id.trace e (record { id = id; label = label; ops = o.ops }) o.guards o.at_end
+  made_constants laws formed lt =
+      let h : HasPool e (ops_at set id.trace) o = subst (λ z. HasPool e z o) its_ops (m.pool laws) in
+      let last : EndsLast (ops_at set id.trace) = last_ends set formed id.trace lt in
+      let long : length (ops_at set id.trace) ≡ last.before + 1 = last.long in
+      let some : 1 ≤ brought (ops_at set id.trace) = brought_some (ops_at set id.trace) (omega (arith, long)) in
+      let own : brought (ops_at set id.trace) ≤ own_weight set id.trace = brought_set set.table.sizes (slice_get set.traces id.trace) in
+      let few : length h.news ≤ 1 + brought (ops_at set id.trace) = h.few in
+      let le : length h.news ≤ 8 * own_weight set id.trace = omega (arith, some, own, few) in
+      record {
+        guards = all_weaker (λ (x : ℕ × Entry). AllByRecursion (HasItem (h.news ++ constants_of e)) (constants_of x.1)) (λ (x : ℕ × Entry). AreFewMore (8 * own_weight set id.trace) (constants_of e) (constants_of x.1))
+            (λ x k. few_more (8 * own_weight set id.trace) h.news (constants_of e) (constants_of x.1) le k) o.guards h.pools.guards;
+        ending = few_more (8 * own_weight set id.trace) h.news (constants_of e) (constants_of o.at_end) le h.pools.at_end;
+        snapshots = few_more (8 * own_weight set id.trace) h.news (constants_of e) (flat_map constants_in (flat_map snapshots_of o.ops)) le h.pools.snapshots;
+      }
+
   pub made_lawful : (laws : Laws) → IsInRange set → IsWellFormed set → JumpsTo set id.trace to.trace → IsLawful set e → map kind_of_val e.values ≡ map (λ (b : BoxId). Some b.kind) (inputs_of (slice_get set.traces id.trace)) → inputs ≡ inputs_of (slice_get s.traces id.trace) → target ≡ inputs_of (slice_get s.traces to.trace)
       → AreLawful set o.guards o.at_end
   made_lawful laws ranged formed aims lawful values i g = let b = built_now laws ranged formed aims lawful values i g in (b.forms.bridges, b.forms.at_end)
@@ -369,5 +430,5 @@ module _ (set : TraceSet) (id : PieceId) (to : PieceId) (e : Entry) (s : TraceSe
       let tr = get_some set.traces id.trace lt in
       let last : EndsLast (ops_at set id.trace) = last_ends set formed id.trace lt in
       let guards : AllByRecursion (λ g. g < guards_in tr.0) (flat_map guards_of o.ops) = subst (λ z. AllByRecursion (λ g. g < guards_in_ops z) (flat_map guards_of o.ops)) (ap ops_of tr.1) b.guards in
-      let whole : IsFormed set labels (record { id = id; label = numbered_from e.label 0; ops = o.ops }) = is_formed set labels id to (inputs_of (slice_get set.traces to.trace)) e.label o tr.0 tr.1 b.aim b.inputs b.forms (made_ends formed lt) guards b.once (b.pairs last) there in
+      let whole : IsFormed set labels (record { id = id; label = numbered_from e.label 0; ops = o.ops }) = is_formed set labels id to (inputs_of (slice_get set.traces to.trace)) e.label o tr.0 tr.1 b.aim b.inputs b.forms (made_ends formed lt g) guards b.once (b.pairs last) there in
       subst (λ z. IsFormed set labels (record { id = id; label = z; ops = o.ops })) (sym (l ∙ ap (λ z. numbered_from z 0) it)) whole

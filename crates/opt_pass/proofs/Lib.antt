@@ -34,3 +34,8 @@ pub mod Ruled
 pub mod Sounding
 pub mod Built
 pub mod Naming
+pub mod Framing
+pub mod Counted
+pub mod Pooled
+pub mod Brought
+pub mod Sizing

@@ -32,6 +32,8 @@ use Rattle.opt_pass.specs.Forming.{IsRuled}
 use Rattle.opt_pass.specs.Building.{guards_in, AreRuled, Built}
 use Rattle.opt_pass.proofs.Beginning.{built_start}
 use Rattle.opt_pass.proofs.Built.{built_more}
+use Rattle.opt_pass.specs.Pooling.{HasPool}
+use Rattle.opt_pass.proofs.Brought.{pool_start, pool_more, pool_all}
 
 -- after so many operations
 pub record Reached (t : Table) (inputs : List BoxId) (to : PieceId) (target : List BoxId) (e : Entry) (ops : List Op) (n : ℕ) (o : Pass) : Type 0 where
@@ -41,7 +43,8 @@ pub record Reached (t : Table) (inputs : List BoxId) (to : PieceId) (target : Li
   pub checked : (j : ℕ) (op : Op) → n ≡ j + 1 → slice_get ops j ≡ Some op → sets_overflow (part_of op.code) ≡ true → o.checked ≡ true
   pub aim : o.to ≡ to
   pub inputs_there : o.target ≡ target
-  pub shown : Shown to e ops n o
+  pub shown : Shown to target e ops n o
+  pub pool : Laws → HasPool e (take n ops) o
   pub built : Laws → AreRight t target e ops → (set : TraceSet) → set.table ≡ t → AreRuled set inputs e ops → Built set (numbered_from e.label 0) inputs ops n o
 
 pub reached_start : (t : Table) (inputs : List BoxId) (to : PieceId) (target : List BoxId) (e : Entry) (ops : List Op) (o : Pass) → o ≡ started t inputs to target e → Reached t inputs to target e ops 0 o
@@ -53,6 +56,7 @@ reached_start t inputs to target e ops o same = subst (Reached t inputs to targe
   aim = refl;
   inputs_there = refl;
   shown = shown_start t inputs to target e ops;
+  pool = λ laws. pool_start laws t inputs to target e;
   built = λ laws right set is r. subst (λ z. Built set (numbered_from e.label 0) inputs ops 0 (started z inputs to target e)) is (built_start laws set inputs ops e r to target);
 })
 
@@ -80,13 +84,14 @@ reached_more t inputs to target e ops n op old new lt is h k = record {
   checked = λ j q m at s. let same : j ≡ n = omega (arith, m) in k.checked (subst (λ z. sets_overflow (part_of z.code) ≡ true) (some_same (sym at ∙ ap (slice_get ops) same ∙ get_is ops n op lt is)) s);
   aim = k.to ∙ h.aim;
   inputs_there = k.target ∙ h.inputs_there;
-  shown = shown_more to e ops n op old new (take_more ops n op lt ∙ ap (λ z. take n ops ++ z ∷ []) (sym is)) (get_is ops n op lt is) h.aim h.shown k.printed;
+  shown = shown_more to target e ops n op old new (take_more ops n op lt ∙ ap (λ z. take n ops ++ z ∷ []) (sym is)) (get_is ops n op lt is) h.aim h.inputs_there h.shown k.printed;
+  pool = λ laws. pool_more laws e (take n ops) (take (n + 1) ops) op old new (take_more ops n op lt ∙ ap (λ z. take n ops ++ z ∷ []) (sym is)) (h.pool laws) k.pool;
   built = λ laws right set same r.
       built_more laws set (numbered_from e.label 0) inputs ops n op old new (take_more ops n op lt ∙ ap (λ z. take n ops ++ z ∷ []) (sym is))
       (subst AreDistinct (sym h.inputs_there) right.apart)
       (subst (λ z. IsRight z old.target op) (sym same) (subst (λ z. IsRight t z op) (sym h.inputs_there) (subst (IsRight t target) (sym is) (All-get_or (IsRight t target) ops n op lt (All-from_recursion (IsRight t target) ops right.right)))))
       (subst (IsRuled set.table) (sym is) (All-get_or (IsRuled set.table) ops n op lt (All-from_recursion (IsRuled set.table) ops r.ruled)))
-      (r.scoped n op (get_is ops n op lt is)) (r.tested n op (get_is ops n op lt is)) (h.built laws right set same r) k;
+      (get_is ops n op lt is) (r.scoped n op (get_is ops n op lt is)) (r.tested n op (get_is ops n op lt is)) (h.built laws right set same r) k;
 }
 
 split : (ops : List Op) (n : ℕ) → take n ops ++ drop n ops ≡ ops
@@ -102,20 +107,23 @@ built_end set to target label inputs ops n o aim there h ended = record {
   forms = h.forms;
   guards = each_weaker (λ g. g < guards_in (take n ops)) (λ g. g < guards_in ops) (λ g lt. let less : guards_in (take n ops) ≤ guards_in ops = sum_by-take-le (λ (x : Op). counted (is_guard x.code)) ops n in omega (arith, lt, less)) (flat_map guards_of o.ops) h.guards;
   once = h.once;
+  slots = h.slots;
   pairs = λ l. subst (Pairs false o.ops) (h.ends (ended l)) h.pairs;
 }
 
 pub reached_end : (t : Table) (inputs : List BoxId) (to : PieceId) (target : List BoxId) (e : Entry) (ops : List Op) (n : ℕ) (o : Pass) → Reached t inputs to target e ops n o → n ≤ length ops → o.ended ≡ true → IsDone t inputs to target e ops o
 reached_end t inputs to target e ops n o h few ended = record {
   made = λ laws right. simulates laws t inputs e (numbered_from e.label 0) ops (take n ops) (drop n ops) o (split ops n) (h.so_far laws right) (inl ended);
-  shows = shows_end to e ops n o h.shown few ended;
+  shows = shows_end to target e ops n o h.shown few ended;
+  pool = λ laws. pool_all e ops n o (h.pool laws);
   built = λ laws right set same r. built_end set to target (numbered_from e.label 0) inputs ops n o h.aim h.inputs_there (h.built laws right set same r) (λ l. ended);
 }
 
 pub reached_all : (t : Table) (inputs : List BoxId) (to : PieceId) (target : List BoxId) (e : Entry) (ops : List Op) (n : ℕ) (o : Pass) → Reached t inputs to target e ops n o → n ≤ length ops → length ops ≤ n → IsDone t inputs to target e ops o
 reached_all t inputs to target e ops n o h few le = record {
   made = λ laws right. simulates laws t inputs e (numbered_from e.label 0) ops (take n ops) [] o (append_none (take n ops) ∙ take_all n ops le) (h.so_far laws right) (inr refl);
-  shows = shows_all to e ops n o h.shown (omega (arith, few, le));
+  shows = shows_all to target e ops n o h.shown (omega (arith, few, le));
+  pool = λ laws. pool_all e ops n o (h.pool laws);
   built = λ laws right set same r. built_end set to target (numbered_from e.label 0) inputs ops n o h.aim h.inputs_there (h.built laws right set same r) (λ l. let all : n ≡ length ops = omega (arith, few, le) in h.shown.left l.before l.last (all ∙ l.long) l.there l.ends);
 }
   where

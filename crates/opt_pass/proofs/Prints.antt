@@ -26,6 +26,7 @@ use Rattle.opt_pass.specs.Contract.{own_size}
 use Rattle.opt_pass.specs.Keeping.{IsPerformed, IsTested, IsBare, Goes, Printed}
 use Rattle.opt_pass.specs.Rising.{counted}
 use Rattle.opt_pass.proofs.Ends.{long_map}
+use Rattle.opt_pass.proofs.Framing.{frames_shown}
 
 none_more : {X : Type 0} (xs : List X) → xs ≡ xs ++ []
 none_more [] = refl
@@ -97,6 +98,9 @@ prints_nothing op o new going ops guards goes alone guard = record {
   held = tt;
   guard = λ w. guard;
   numbers = tt;
+  frames = tt;
+  slots = tt;
+  jumps = tt;
   numbered = omega arith;
   pairs = (alone_sets op.code alone, alone_reads op.code alone);
 }
@@ -123,6 +127,9 @@ prints_plain op o new to going ops guards goes is guard =
       held = tt;
       guard = λ w. guard ∙ no_more_counted o.guard (is_guard op.code) (performed_guards op.code is);
       numbers = tt;
+      frames = tt;
+      slots = tt;
+      jumps = (tt, tt);
       numbered = omega arith;
       pairs = (refl, sym (performed_reads op.code is));
     }
@@ -146,6 +153,9 @@ prints_guard op o new going ops guards goes is guard =
       held = ((refl, refl), tt);
       guard = λ w. guard ∙ ap (λ z. o.guard + z) (sym one);
       numbers = (refl, tt);
+      frames = ((refl, tested_guards op.code is, frames_shown o.names o.forward op.snapshot), tt);
+      slots = ((refl, tested_guards op.code is, refl), tt);
+      jumps = (tt, tt);
       numbered = omega (arith, one);
       pairs = (sym (tested_sets op.code is), refl);
     }
@@ -166,6 +176,9 @@ prints_exit op o going is = record {
   held = ((refl, refl), tt);
   guard = λ w. absurd (false_true (sym w));
   numbers = (refl, tt);
+  frames = ((refl, ap guarding is, frames_shown o.names o.forward op.snapshot), tt);
+  slots = ((refl, ap guarding is, refl), tt);
+  jumps = (tt, tt);
   numbered = let one : counted (is_guard op.code) ≡ 1 = one_counted (is_guard op.code) (ap guarding is) in omega (arith, one);
   pairs = (sym (ap overflowing is), sym (ap reading_overflow is));
 }
@@ -182,19 +195,22 @@ prints_jump op o going pre is = record {
   guards = none_more o.guards;
   entries = tt;
   small = omega arith;
-  ending = (refl, λ e. (refl, λ body. pre_body (sym pre ∙ body)));
+  ending = (refl, λ e. (refl, (λ body. pre_body (sym pre ∙ body)), λ h. refl));
   leaves = λ e. refl;
   boxes = omega arith;
   bare = λ h. (refl, refl);
   held = tt;
   guard = λ w. absurd (false_true (sym w));
   numbers = tt;
+  frames = tt;
+  slots = tt;
+  jumps = (is, tt);
   numbered = omega arith;
   pairs = (sym (ap overflowing is), sym (ap reading_overflow is));
 }
 
-pub prints_body : (op : Op) (o : Pass) → o.ended ≡ false → part_of op.code ≡ part.Jump → Printed op o (with_body o (passed_in o op.args))
-prints_body op o going is = record {
+pub prints_body : (op : Op) (o : Pass) → o.ended ≡ false → o.to.half ≡ half.Body → part_of op.code ≡ part.Jump → Printed op o (with_body o (passed_in o op.args))
+prints_body op o going body is = record {
   going = going;
   more = opt.Jump o.to (resume_args (passed_in o op.args)) ∷ [];
   late = [];
@@ -202,13 +218,16 @@ prints_body op o going is = record {
   guards = none_more o.guards;
   entries = tt;
   small = omega arith;
-  ending = (refl, λ e. (refl, λ body. refl));
+  ending = (refl, λ e. (refl, (λ h. refl), λ pre. pre_body (sym pre ∙ body)));
   leaves = λ e. refl;
   boxes = omega arith;
   bare = λ h. (refl, refl);
   held = tt;
   guard = λ w. absurd (false_true (sym w));
   numbers = tt;
+  frames = tt;
+  slots = tt;
+  jumps = (is, tt);
   numbered = omega arith;
   pairs = (sym (ap overflowing is), sym (ap reading_overflow is));
 }
@@ -236,6 +255,9 @@ prints_finish op o going is =
       held = tt;
       guard = λ w. absurd (false_true (sym w));
       numbers = tt;
+      frames = tt;
+      slots = tt;
+      jumps = (tt, tt);
       numbered = omega arith;
       pairs = (sym (ap overflowing is), sym (ap reading_overflow is));
     }

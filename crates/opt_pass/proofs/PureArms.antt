@@ -44,6 +44,7 @@ use Rattle.trace_ops.specs.Facts.{gives_of}
 use Rattle.opt_pass.specs.Forming.{IsArg, defined_in, Forms, IsRuled, IsScoped}
 use Rattle.opt_pass.proofs.Shaping.{keeps_form_value, keeps_form_made, value_noted, value_folded, value_same}
 use Rattle.opt_pass.proofs.Naming.{names_given}
+use Rattle.opt_pass.proofs.Pooled.{keeps_pool_value, keeps_pool_made}
 
 false_true : false ≡ true → ⊥
 false_true e = cc
@@ -79,6 +80,7 @@ keeps_value op o new of value going pure gives is form n = subst (KeepsAll op o)
   target = refl;
   forms = keeps_form_value op o of value gives form;
   names = λ laws. names_given laws op o (named_as o of value) of (Known value) gives refl;
+  pool = keeps_pool_value op o of value;
 })
 
 pub keeps_raw : (op : Op) (o new : Pass) (of : BoxId) (value : Arg) (raws : List Arg) → o.ended ≡ false → is_pure op.code ≡ true → op.result ≡ Some of → IsFew raws → raws ≡ map (raw o.names) op.args → Some value ≡ noted o.known op.code raws → new ≡ named_as o of value → KeepsAll op o new
@@ -186,4 +188,5 @@ keeps_made op o new of raws args going pure gives few_raws few is_raw is made =
       target = ap (λ (z : Pass). z.target) noted.rest;
       forms = keeps_form_made op o new of (inl (pure_plain op.code pure)) gives (subst IsFew is_raw few_raws) (subst IsFew is few) noted;
       names = λ laws. names_given laws op o new of (Known (arg.Of (next_box o of))) gives (ap (λ (z : Pass). z.names) noted.rest);
+      pool = keeps_pool_made op o new of (map (raw o.names) op.args) (args_of o op.args) noted;
     }

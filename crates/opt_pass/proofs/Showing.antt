@@ -33,8 +33,17 @@ use Rattle.opt_meaning.specs.Admits.{plain_entry}
 use Rattle.opt_pass.specs.declared.start.Entering.{Entering}
 use Rattle.opt_pass.specs.declared.state.Pass.{Pass}
 use Rattle.opt_pass.specs.Starting.{made_box, entered_val, entering, making, makings, fill, fills, fills_of, all_fills, entered_store, stores_entered, known_arg, storing_at, storing, entry_ops, started}
-use Rattle.opt_pass.specs.Contract.{kept_of, IsEntryAt, HasEntries, IsEnd, GoesOn, EndsWith, own_size, making_cost, filling_cost, part_cost, shape_cost, spot_cost, store_cost, cost_of}
-use Rattle.opt_pass.specs.Keeping.{IsBare, Goes, IsEndingBy, IsEnding, Printed, weight_from, EndsLast, Shows}
+use Rattle.opt_pass.specs.Contract.{kept_of, IsEntryAt, HasEntries, IsEnd, GoesOn, EndsWith, HasFramesOf, KeepsFrames, own_size, making_cost, filling_cost, part_cost, shape_cost, spot_cost, store_cost, cost_of}
+use Rattle.trace_ops.specs.declared.piece.Snapshot.{Snapshot}
+use Rattle.std.specs.Option.{IsSomeAnd}
+use Rattle.trace_ops.specs.Classes.{is_guard}
+use Rattle.trace_meaning.specs.Observed.{guard_in}
+use Rattle.opt_meaning.specs.Showing.{AreFramesOf}
+use Rattle.lists.proofs.Eaches.{each_weaker}
+use Rattle.opt_pass.specs.Rising.{counted}
+use Rattle.opt_pass.specs.Building.{guards_in}
+use Rattle.opt_pass.proofs.Framing.{guard_at}
+use Rattle.opt_pass.specs.Keeping.{IsKeptOf, IsBare, Goes, IsEndingBy, IsEnding, Printed, weight_from, EndsLast, Shows, IsJumpOf, IsOfJump}
 
 -- Sums and lists one behind the other
 
@@ -187,21 +196,41 @@ entry_first t e =
     let made : sum_by (λ (s : Shape). making_cost s.of) e.shapes + sum_by store_cost (all_fills t n 0 e.shapes) ≤ sum_by shape_cost e.shapes = all_cost t n 0 e.shapes in
     record { goes = h.goes; none = h.none; small = omega (arith, h.small, both, own, made) }
 
+pub entry_none : (t : Table) (e : Entry) → flat_map kept_of (entry_ops t e) ≡ []
+entry_none t e = (entry_first t e).none
+
 -- So far
 
-abbrev pub Ending : PieceId → Pass → Type 0
-Ending to o = ((o.ended ≡ false) × (o.at_end ≡ plain_entry []) × AllByRecursion GoesOn o.ops) ⊎ ((o.ended ≡ true) × EndsWith to o.at_end o.ops)
+abbrev pub Ending : PieceId → List BoxId → Pass → Type 0
+Ending to target o = ((o.ended ≡ false) × (o.at_end ≡ plain_entry []) × AllByRecursion GoesOn o.ops) ⊎ ((o.ended ≡ true) × EndsWith to target o.at_end o.ops)
 
-pub record Shown (to : PieceId) (e : Entry) (ops : List Op) (n : ℕ) (o : Pass) : Type 0 where
+pub record Shown (to : PieceId) (target : List BoxId) (e : Entry) (ops : List Op) (n : ℕ) (o : Pass) : Type 0 where
   pub entries : HasEntries o.ops o.guards
   pub small : sum_by own_size o.ops ≤ weight_from (take n ops) + cost_of e
-  pub ending : Ending to o
+  pub ending : Ending to target o
   pub boxes : length (flat_map results_of o.ops) ≤ length e.shapes + n
   pub bare : IsBare o.at_end
   pub held : AllByRecursion (λ x. IsBare x.1) o.guards
+  pub guard : o.ended ≡ false → o.guard ≡ guards_in (take n ops)
+  pub frames : HasFramesOf ops o.ops
+  pub jumps : AllByRecursion (IsOfJump ops) o.ops
   pub left : (j : ℕ) (op : Op) → n ≡ j + 1 → slice_get ops j ≡ Some op → ends (part_of op.code) ≡ true → o.ended ≡ true
 
-pub shown_start : (t : Table) (inputs : List BoxId) (to : PieceId) (target : List BoxId) (e : Entry) (ops : List Op) → Shown to e ops 0 (started t inputs to target e)
+going_jumps : (ops : List Op) (x : OptOp) → GoesOn x → IsOfJump ops x
+going_jumps ops (opt.Plain c r a d) h = tt
+going_jumps ops (opt.Guard c a n s) h = tt
+going_jumps ops (opt.Exit n s) h = absurd h
+going_jumps ops (opt.Jump q a) h = absurd h
+going_jumps ops (opt.Finish v) h = absurd h
+
+jump_of : (ops : List Op) (n : ℕ) (op : Op) → slice_get ops n ≡ Some op → (x : OptOp) → IsJumpOf op x → IsOfJump ops x
+jump_of ops n op at (opt.Plain c r a d) h = tt
+jump_of ops n op at (opt.Guard c a m s) h = tt
+jump_of ops n op at (opt.Exit m s) h = tt
+jump_of ops n op at (opt.Jump q a) h = (n, op, at, h)
+jump_of ops n op at (opt.Finish v) h = tt
+
+pub shown_start : (t : Table) (inputs : List BoxId) (to : PieceId) (target : List BoxId) (e : Entry) (ops : List Op) → Shown to target e ops 0 (started t inputs to target e)
 shown_start t inputs to target e ops = let h = entry_first t e in record {
   entries = subst (λ z. AllZip IsEntryAt z []) (sym h.none) tt;
   small = omega (arith, h.small);
@@ -209,27 +238,30 @@ shown_start t inputs to target e ops = let h = entry_first t e in record {
   boxes = let few : results (entry_ops t e) ≤ length e.shapes = entry_results t e in omega (arith, few);
   bare = (refl, refl);
   held = tt;
+  guard = λ going. refl;
+  frames = subst (AllByRecursion (KeepsFrames ops)) (sym h.none) tt;
+  jumps = each_weaker GoesOn (IsOfJump ops) (going_jumps ops) (entry_ops t e) h.goes;
   left = λ j op n. absurd (omega (arith, n));
 }
 
 false_true : false ≡ true → ⊥
 false_true e = cc
 
-one_ends : (to : PieceId) (old new : Pass) (x : OptOp) (q : Bool) → old.to ≡ to → new.ops ≡ old.ops ++ x ∷ [] → old.at_end ≡ plain_entry [] → AllByRecursion GoesOn old.ops → IsEndingBy q old new x → Ending to new
-one_ends to old new x false aim ops none goes h = inl (h.1.0, h.1.1 ∙ none, subst (AllByRecursion GoesOn) (sym ops) (each_append GoesOn old.ops (x ∷ []) goes (h.0, tt)))
-one_ends to old new x true aim ops none goes h = inr (h.0, record { front = old.ops; last = x; whole = ops; goes = goes; ends = subst (λ z. IsEnd z new.at_end x) aim (h.1 none) })
+one_ends : (to : PieceId) (target : List BoxId) (old new : Pass) (x : OptOp) (q : Bool) → old.to ≡ to → old.target ≡ target → new.ops ≡ old.ops ++ x ∷ [] → old.at_end ≡ plain_entry [] → AllByRecursion GoesOn old.ops → IsEndingBy q old new x → Ending to target new
+one_ends to target old new x false aim there ops none goes h = inl (h.1.0, h.1.1 ∙ none, subst (AllByRecursion GoesOn) (sym ops) (each_append GoesOn old.ops (x ∷ []) goes (h.0, tt)))
+one_ends to target old new x true aim there ops none goes h = inr (h.0, record { front = old.ops; last = x; whole = ops; goes = goes; ends = subst (λ z. IsEnd z target new.at_end x) aim (subst (λ z. IsEnd old.to z new.at_end x) there (h.1 none)) })
 
-more_ends : (to : PieceId) (old new : Pass) (more : List OptOp) → old.to ≡ to → new.ops ≡ old.ops ++ more → old.at_end ≡ plain_entry [] → AllByRecursion GoesOn old.ops → IsEnding old new more → Ending to new
-more_ends to old new [] aim ops none goes h = inl (h.0, h.1 ∙ none, subst (AllByRecursion GoesOn) (sym (ops ∙ append_none old.ops)) goes)
+more_ends : (to : PieceId) (target : List BoxId) (old new : Pass) (more : List OptOp) → old.to ≡ to → old.target ≡ target → new.ops ≡ old.ops ++ more → old.at_end ≡ plain_entry [] → AllByRecursion GoesOn old.ops → IsEnding old new more → Ending to target new
+more_ends to target old new [] aim there ops none goes h = inl (h.0, h.1 ∙ none, subst (AllByRecursion GoesOn) (sym (ops ∙ append_none old.ops)) goes)
   where
     append_none : {X : Type 0} (xs : List X) → xs ++ [] ≡ xs
     append_none [] = refl
     append_none (z ∷ zs) = ap (λ l. z ∷ l) (append_none zs)
-more_ends to old new (x ∷ []) aim ops none goes h = one_ends to old new x (is_end x) aim ops none goes h
-more_ends to old new (x ∷ y ∷ more) aim ops none goes h = absurd h
+more_ends to target old new (x ∷ []) aim there ops none goes h = one_ends to target old new x (is_end x) aim there ops none goes h
+more_ends to target old new (x ∷ y ∷ more) aim there ops none goes h = absurd h
 
-pub shown_more : (to : PieceId) (e : Entry) (ops : List Op) (n : ℕ) (op : Op) (old new : Pass) → take (n + 1) ops ≡ take n ops ++ op ∷ [] → slice_get ops n ≡ Some op → old.to ≡ to → Shown to e ops n old → Printed op old new → Shown to e ops (n + 1) new
-shown_more to e ops n op old new split at aim h k = record {
+pub shown_more : (to : PieceId) (target : List BoxId) (e : Entry) (ops : List Op) (n : ℕ) (op : Op) (old new : Pass) → take (n + 1) ops ≡ take n ops ++ op ∷ [] → slice_get ops n ≡ Some op → old.to ≡ to → old.target ≡ target → Shown to target e ops n old → Printed op old new → Shown to target e ops (n + 1) new
+shown_more to target e ops n op old new split at aim there h k = record {
   entries = subst (λ z. AllZip IsEntryAt z new.guards) (sym (ap (flat_map kept_of) k.ops ∙ flat_both kept_of old.ops k.more)) (subst (AllZip IsEntryAt (flat_map kept_of old.ops ++ flat_map kept_of k.more)) (sym k.guards) (zip_append IsEntryAt (flat_map kept_of old.ops) old.guards (flat_map kept_of k.more) k.late h.entries k.entries));
   small =
       let one : sum_by own_size new.ops ≡ sum_by own_size old.ops + sum_by own_size k.more = ap (sum_by own_size) k.ops ∙ sum_by-append own_size old.ops k.more in
@@ -241,35 +273,52 @@ shown_more to e ops n op old new split at aim h k = record {
       omega (arith, both, h.boxes, k.boxes);
   bare = k.bare h.bare;
   held = subst (AllByRecursion (λ x. IsBare x.1)) (sym k.guards) (each_append (λ x. IsBare x.1) old.guards k.late h.held k.held);
+  guard = λ going. k.guard going ∙ ap (λ z. z + counted (is_guard op.code)) (h.guard k.going) ∙ sym count;
+  frames = subst (AllByRecursion (KeepsFrames ops)) (sym (ap (flat_map kept_of) k.ops ∙ flat_both kept_of old.ops k.more))
+      (each_append (KeepsFrames ops) (flat_map kept_of old.ops) (flat_map kept_of k.more) h.frames (each_weaker (IsKeptOf op old.guard) (KeepsFrames ops) kept (flat_map kept_of k.more) k.frames));
+  jumps = subst (AllByRecursion (IsOfJump ops)) (sym k.ops) (each_append (IsOfJump ops) old.ops k.more h.jumps (each_weaker (IsJumpOf op) (IsOfJump ops) (jump_of ops n op at) k.more k.jumps));
   left = λ j q m w z. let same : j ≡ n = omega (arith, m) in k.leaves (subst (λ x. ends (part_of x.code) ≡ true) (some_same (sym w ∙ ap (slice_get ops) same ∙ at)) z);
 }
   where
-    by : Ending to old → Ending to new
-    by (inl g) = more_ends to old new k.more aim k.ops g.1 g.2 k.ending
+    count : guards_in (take (n + 1) ops) ≡ guards_in (take n ops) + counted (is_guard op.code)
+    count =
+        let both : guards_in (take (n + 1) ops) ≡ guards_in (take n ops) + guards_in (op ∷ []) = ap guards_in split ∙ sum_by-append (λ (x : Op). counted (is_guard x.code)) (take n ops) (op ∷ []) in
+        let one : guards_in (op ∷ []) ≡ counted (is_guard op.code) + 0 = sum_by-cons (λ (x : Op). counted (is_guard x.code)) op [] in
+        omega (arith, both, one)
+
+    kept : (x : ℕ × Snapshot) → IsKeptOf op old.guard x → KeepsFrames ops x
+    kept x w = subst (λ z. IsSomeAnd z (λ (q : Op). AreFramesOf q.snapshot x.1.frames)) (sym (ap (guard_in ops) (w.0 ∙ h.guard k.going) ∙ guard_at ops n op at w.1)) w.2
+
+    by : Ending to target old → Ending to target new
+    by (inl g) = more_ends to target old new k.more aim there k.ops g.1 g.2 k.ending
     by (inr g) = absurd (false_true (sym k.going ∙ g.0))
 
 -- The whole: where the last recorded operation ends its trace, the piece has ended too
 
-pub shows_end : (to : PieceId) (e : Entry) (ops : List Op) (n : ℕ) (o : Pass) → Shown to e ops n o → n ≤ length ops → o.ended ≡ true → Shows to e ops o
-shows_end to e ops n o h few ended = record {
+pub shows_end : (to : PieceId) (target : List BoxId) (e : Entry) (ops : List Op) (n : ℕ) (o : Pass) → Shown to target e ops n o → n ≤ length ops → o.ended ≡ true → Shows to target e ops o
+shows_end to target e ops n o h few ended = record {
   entries = h.entries;
   small = let less : weight_from (take n ops) ≤ weight_from ops = sum_by-take-le (λ (x : Op). 1 + length x.args) ops n in omega (arith, less, h.small);
   ending = λ l. by h.ending;
   boxes = omega (arith, h.boxes, few);
   bare = h.bare;
   held = h.held;
+  frames = h.frames;
+  jumps = h.jumps;
 }
   where
-    by : Ending to o → EndsWith to o.at_end o.ops
+    by : Ending to target o → EndsWith to target o.at_end o.ops
     by (inl g) = absurd (false_true (sym g.0 ∙ ended))
     by (inr g) = g.1
 
-pub shows_all : (to : PieceId) (e : Entry) (ops : List Op) (n : ℕ) (o : Pass) → Shown to e ops n o → n ≡ length ops → Shows to e ops o
-shows_all to e ops n o h all = record {
+pub shows_all : (to : PieceId) (target : List BoxId) (e : Entry) (ops : List Op) (n : ℕ) (o : Pass) → Shown to target e ops n o → n ≡ length ops → Shows to target e ops o
+shows_all to target e ops n o h all = record {
   entries = h.entries;
   small = let less : weight_from (take n ops) ≤ weight_from ops = sum_by-take-le (λ (x : Op). 1 + length x.args) ops n in omega (arith, less, h.small);
   boxes = omega (arith, h.boxes, all);
   bare = h.bare;
   held = h.held;
-  ending = λ l. (shows_end to e ops n o h (omega (arith, all)) (h.left l.before l.last (all ∙ l.long) l.there l.ends)).ending l;
+  frames = h.frames;
+  jumps = h.jumps;
+  ending = λ l. (shows_end to target e ops n o h (omega (arith, all)) (h.left l.before l.last (all ∙ l.long) l.there l.ends)).ending l;
 }

@@ -137,12 +137,12 @@ ends_at (y ∷ front) last h l (suc k) x e =
     let s = ends_at front last h.1 l k x e in
     (λ q. let r : k + 1 ≡ length (front ++ last ∷ []) = s.0 q in omega (arith, r), λ q. s.1 (omega (arith, q)))
 
-end_is : (to : PieceId) (e : Entry) (x : OptOp) → IsEnd to e x → is_end x ≡ true
-end_is to e (opt.Plain c r a d) h = absurd h
-end_is to e (opt.Guard c a n s) h = absurd h
-end_is to e (opt.Exit n s) h = refl
-end_is to e (opt.Jump q a) h = refl
-end_is to e (opt.Finish v) h = refl
+end_is : (to : PieceId) (inputs : List BoxId) (e : Entry) (x : OptOp) → IsEnd to inputs e x → is_end x ≡ true
+end_is to inputs e (opt.Plain c r a d) h = absurd h
+end_is to inputs e (opt.Guard c a n s) h = absurd h
+end_is to inputs e (opt.Exit n s) h = refl
+end_is to inputs e (opt.Jump q a) h = refl
+end_is to inputs e (opt.Finish v) h = refl
 
 fits_preamble : (labels : PieceId → Option (List BoxId)) (to : PieceId) (target : List BoxId) → HasInputs labels to target → (x : OptOp) → FitsTarget to target x → FitsPreamble labels x
 fits_preamble labels to target h (opt.Plain c r a d) f = tt
@@ -163,7 +163,7 @@ fits_preamble labels to target h (opt.Jump q args) f = λ pre. by pre
 -- The whole
 
 pub is_formed : (set : TraceSet) (labels : PieceId → Option (List BoxId)) (id to : PieceId) (target : List BoxId) (items : List BoxId) (o : Pass) (tr : Trace) → slice_get set.traces id.trace ≡ Some tr
-    → o.to ≡ to → o.target ≡ target → Forms set (numbered_from items 0) o → EndsWith to o.at_end o.ops → AllByRecursion (λ g. g < guards_in tr) (flat_map guards_of o.ops) → IsOnce (flat_map guards_of o.ops) → Pairs false o.ops false
+    → o.to ≡ to → o.target ≡ target → Forms set (numbered_from items 0) o → EndsWith to target o.at_end o.ops → AllByRecursion (λ g. g < guards_in tr) (flat_map guards_of o.ops) → IsOnce (flat_map guards_of o.ops) → Pairs false o.ops false
     → HasInputs labels to target → IsFormed set labels (record { id = id; label = numbered_from items 0; ops = o.ops })
 is_formed set labels id to target items o tr at aim there forms ends guards once pairs inputs =
     let t : Table = set.table in
@@ -183,7 +183,7 @@ is_formed set labels id to target items o tr at aim there forms ends guards once
       };
       overflow_is_tested = pairs_tested false o.ops pairs;
       overflow_is_set = pairs_paired false o.ops pairs;
-      ends_once = λ k x e. subst (λ z. IsTrue (is_end x) ↔ (k + 1 ≡ length z)) (sym ends.whole) (ends_at ends.front ends.last ends.goes (end_is to o.at_end ends.last ends.ends) k x (ap (λ z. slice_get z k) (sym ends.whole) ∙ e));
+      ends_once = λ k x e. subst (λ z. IsTrue (is_end x) ↔ (k + 1 ≡ length z)) (sym ends.whole) (ends_at ends.front ends.last ends.goes (end_is to target o.at_end ends.last ends.ends) k x (ap (λ z. slice_get z k) (sym ends.whole) ∙ e));
       has_an_end = some ends.front ends.last ends.whole;
       guards_of_trace = subst (λ z. IsSomeAnd z (λ (x : Trace). All (λ g. g < guards_in x) (flat_map guards_of o.ops))) (sym at) (All-from_recursion (λ g. g < guards_in tr) (flat_map guards_of o.ops) guards);
       guards_distinct = apart_once (flat_map guards_of o.ops) once;

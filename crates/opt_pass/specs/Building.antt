@@ -13,6 +13,7 @@ use Rattle.trace_ops.specs.Lawful.{IsLawful}
 use Rattle.trace_ops.specs.Pieces.{guards_of}
 use Rattle.trace_ops.specs.Rules.{boxes_in}
 use Rattle.lists.specs.Has.{Has, IsOnce}
+use Rattle.opt_pass.specs.Recording.{HaveSlots}
 use Rattle.opt_pass.specs.declared.state.Pass.{Pass}
 use Rattle.opt_pass.specs.Tables.{name_in}
 use Rattle.opt_pass.specs.Rising.{Pairs, sets_behind}
@@ -41,6 +42,7 @@ pub record Built (set : TraceSet) (label inputs : List BoxId) (ops : List Op) (n
   pub named : o.ended ≡ false → (b : BoxId) → Has (given_by inputs (take n ops)) b → IsSome (name_in o.names b)
   pub guards : AllByRecursion (λ g. g < guards_in (take n ops)) (flat_map guards_of o.ops)
   pub once : IsOnce (flat_map guards_of o.ops)
+  pub slots : HaveSlots ops o.guards
   pub guard : o.ended ≡ false → o.guard ≡ guards_in (take n ops)
   pub last : Bool
   pub pairs : Pairs false o.ops last

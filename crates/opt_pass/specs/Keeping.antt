@@ -5,7 +5,7 @@ use Rattle.trace_ops.specs.Classes.{is_guard}
 use Rattle.trace_ops.specs.Pieces.{is_end, results_of, guards_of}
 use Rattle.trace_ops.specs.Rules.{ends}
 use Rattle.trace_ops.specs.declared.piece.PieceId.{PieceId}
-use Rattle.opt_pass.specs.Contract.{HasEntries, IsEnd, GoesOn, EndsWith, own_size, cost_of}
+use Rattle.opt_pass.specs.Contract.{kept_of, HasEntries, HasFramesOf, IsEnd, GoesOn, EndsWith, own_size, cost_of}
 use Rattle.trace_ops.specs.declared.code.OpCode.{OpCode}
 use Rattle.trace_ops.specs.declared.facts.Part.{Part}
 use Rattle.trace_ops.specs.declared.facts.Part.TheVariants as part
@@ -16,6 +16,8 @@ use Rattle.trace_ops.specs.declared.trace.Op.{Op}
 use Rattle.trace_ops.specs.declared.table.Table.{Table}
 use Rattle.trace_ops.specs.declared.piece.Entry.{Entry}
 use Rattle.trace_ops.specs.declared.piece.OptOp.{OptOp}
+use Rattle.trace_ops.specs.declared.piece.OptOp.TheVariants as opt
+use Rattle.trace_ops.specs.declared.piece.Snapshot.{Snapshot}
 use Rattle.trace_ops.specs.Facts.{part_of}
 use Rattle.trace_ops.specs.Kinds.{kind_of_arg}
 use Rattle.trace_ops.specs.Lawful.{AreDistinct, IsNumbered, IsShapeLawful}
@@ -30,14 +32,18 @@ use Rattle.trace_meaning.specs.Legs.{Turn, On, Off, drive, drive_to}
 use Rattle.trace_meaning.specs.Keeping.{AreOfKind, KeepsKinds}
 use Rattle.trace_meaning.specs.Recorded.{Rec, slots_of, recorded_step}
 use Rattle.opt_meaning.specs.Step.{Opt, opt_step, opt_begin}
-use Rattle.opt_meaning.specs.Admits.{Admits, plain_entry}
+use Rattle.opt_meaning.specs.Admits.{Admits, plain_entry, slots_of as kept_slots}
 use Rattle.opt_meaning.specs.Leaving.{SameLeave}
+use Rattle.opt_meaning.specs.Showing.{AreFramesOf}
 use Rattle.opt_pass.specs.declared.state.Pass.{Pass}
 use Rattle.opt_pass.specs.Laws.{Laws}
+use Rattle.opt_pass.specs.State.{opt_frame}
+use Rattle.opt_pass.specs.Recording.{HaveSlots}
 pub use Rattle.opt_pass.specs.Ruling.{HasKind, EndsRightly}
 use Rattle.opt_pass.specs.Rising.{counted, Pairs, IsPairOf}
 use Rattle.opt_pass.specs.Forming.{Forms, KeepsForm, KeepsNames}
 use Rattle.opt_pass.specs.Building.{guards_in, AreRuled}
+use Rattle.opt_pass.specs.Pooling.{KeepsPool, HasPool}
 use Rattle.trace_ops.specs.declared.trace.TraceSet.{TraceSet}
 use Rattle.opt_pass.specs.Starting.{numbered_from}
 use Rattle.opt_pass.specs.Standing.{Stands, SameTurn}
@@ -87,13 +93,37 @@ Goes old new = (new.ended ≡ false) × (new.at_end ≡ old.at_end)
 
 abbrev pub IsEndingBy : Bool → Pass → Pass → OptOp → Type 0
 IsEndingBy false old new x = GoesOn x × Goes old new
-IsEndingBy true old new x = (new.ended ≡ true) × (old.at_end ≡ plain_entry [] → IsEnd old.to new.at_end x)
+IsEndingBy true old new x = (new.ended ≡ true) × (old.at_end ≡ plain_entry [] → IsEnd old.to old.target new.at_end x)
 
 -- at most one operation, with which the piece goes on or ends
 abbrev pub IsEnding : Pass → Pass → List OptOp → Type 0
 IsEnding old new [] = Goes old new
 IsEnding old new (x ∷ []) = IsEndingBy (is_end x) old new x
 IsEnding old new (x ∷ y ∷ more) = ⊥
+
+-- the guard of this number, with frames like the recorded ones
+abbrev pub IsKeptOf : Op → ℕ → (ℕ × Snapshot) → Type 0
+IsKeptOf op n x = (x.0 ≡ n) × (is_guard op.code ≡ true) × AreFramesOf op.snapshot x.1.frames
+
+-- what is left where the guard of this number fails: what its slots stand for
+abbrev pub IsLeftAt : Op → Pass → (ℕ × Entry) → Type 0
+IsLeftAt op old y = (y.0 ≡ old.guard) × (is_guard op.code ≡ true) × (y.1.values ≡ kept_slots (map (opt_frame old.names old.forward) op.snapshot))
+
+-- a jump is made from a jump alone
+abbrev pub IsJumpOf : Op → OptOp → Type 0
+IsJumpOf op (opt.Jump to args) = part_of op.code ≡ part.Jump
+IsJumpOf op (opt.Plain code result args d) = Unit {0}
+IsJumpOf op (opt.Guard code args n snap) = Unit {0}
+IsJumpOf op (opt.Exit n snap) = Unit {0}
+IsJumpOf op (opt.Finish value) = Unit {0}
+
+-- and so it is made from one of these operations
+abbrev pub IsOfJump : List Op → OptOp → Type 0
+IsOfJump ops (opt.Jump to args) = (k : ℕ) × (op : Op) × (slice_get ops k ≡ Some op) × (part_of op.code ≡ part.Jump)
+IsOfJump ops (opt.Plain code result args d) = Unit {0}
+IsOfJump ops (opt.Guard code args n snap) = Unit {0}
+IsOfJump ops (opt.Exit n snap) = Unit {0}
+IsOfJump ops (opt.Finish value) = Unit {0}
 
 pub record Printed (op : Op) (old new : Pass) : Type 0 where
   pub going : old.ended ≡ false
@@ -110,6 +140,9 @@ pub record Printed (op : Op) (old new : Pass) : Type 0 where
   pub held : AllByRecursion (λ x. IsBare x.1) late
   pub guard : new.ended ≡ false → new.guard ≡ old.guard + counted (is_guard op.code)
   pub numbers : AllByRecursion (λ g. g ≡ old.guard) (flat_map guards_of more)
+  pub frames : AllByRecursion (IsKeptOf op old.guard) (flat_map kept_of more)
+  pub slots : AllByRecursion (IsLeftAt op old) late
+  pub jumps : AllByRecursion (IsJumpOf op) more
   pub numbered : length (flat_map guards_of more) ≤ counted (is_guard op.code)
   pub pairs : IsPairOf op.code more
 
@@ -124,6 +157,7 @@ pub record KeepsAll (op : Op) (old new : Pass) : Type 0 where
   pub target : new.target ≡ old.target
   pub forms : KeepsForm op old new
   pub names : Laws → KeepsNames op old new
+  pub pool : KeepsPool op old new
 
 -- each guard that reads overflow stands behind an operation that sets it
 abbrev pub ArePaired : List Op → Type 0
@@ -177,13 +211,15 @@ pub record EndsLast (ops : List Op) : Type 0 where
   pub ends : ends (part_of last.code) ≡ true
 
 -- an entry for each guard, no more operations than the trace and the entry allow, and an end
-pub record Shows (to : PieceId) (e : Entry) (ops : List Op) (o : Pass) : Type 0 where
+pub record Shows (to : PieceId) (target : List BoxId) (e : Entry) (ops : List Op) (o : Pass) : Type 0 where
   pub entries : HasEntries o.ops o.guards
   pub small : sum_by own_size o.ops ≤ weight_from ops + cost_of e
-  pub ending : EndsLast ops → EndsWith to o.at_end o.ops
+  pub ending : EndsLast ops → EndsWith to target o.at_end o.ops
   pub boxes : length (flat_map results_of o.ops) ≤ length e.shapes + length ops
   pub bare : IsBare o.at_end
   pub held : AllByRecursion (λ x. IsBare x.1) o.guards
+  pub frames : HasFramesOf ops o.ops
+  pub jumps : AllByRecursion (IsOfJump ops) o.ops
 
 -- the piece is formed, its guards are the trace's and stand once, and overflow is tested where it is set
 pub record IsBuilt (set : TraceSet) (to : PieceId) (target label : List BoxId) (ops : List Op) (o : Pass) : Type 0 where
@@ -192,9 +228,11 @@ pub record IsBuilt (set : TraceSet) (to : PieceId) (target label : List BoxId) (
   pub forms : Forms set label o
   pub guards : AllByRecursion (λ g. g < guards_in ops) (flat_map guards_of o.ops)
   pub once : IsOnce (flat_map guards_of o.ops)
+  pub slots : HaveSlots ops o.guards
   pub pairs : EndsLast ops → Pairs false o.ops false
 
 pub record IsDone (t : Table) (inputs : List BoxId) (to : PieceId) (target : List BoxId) (e : Entry) (ops : List Op) (o : Pass) : Type 0 where
   pub made : IsMade t inputs target e ops o
-  pub shows : Shows to e ops o
+  pub shows : Shows to target e ops o
+  pub pool : Laws → HasPool e ops o
   pub built : Laws → AreRight t target e ops → (set : TraceSet) → set.table ≡ t → AreRuled set inputs e ops → IsBuilt set to target (numbered_from e.label 0) ops o

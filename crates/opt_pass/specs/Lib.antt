@@ -11,3 +11,6 @@ pub mod Forming
 pub mod Rising
 pub mod Building
 pub mod Inputs
+pub mod Counting
+pub mod Pooling
+pub mod Recording

@@ -10,8 +10,10 @@ ghost use Rattle.trace_ops.specs.Sound.{IsFormed};
 ghost use Rattle.trace_ops.specs.declared.piece.PieceId.{PieceId};
 ghost use Rattle.trace_meaning.specs.Recorded.{inputs_of, ops_at};
 ghost use Rattle.opt_meaning.specs.Leaving.{Simulates};
-ghost use Rattle.opt_pass.specs.Contract.{JumpsTo, IsOf, HasEntries, EndsWith, IsSmall};
+ghost use Rattle.opt_pass.specs.Contract.{JumpsTo, IsOf, HasEntries, EndsWith, HasFramesOf, IsSmall};
+ghost use Rattle.opt_pass.specs.Counting.{AddsFewConstants};
 ghost use Rattle.opt_pass.specs.Inputs.{HasInputs, AreLawful};
+ghost use Rattle.opt_pass.specs.Recording.{HaveSlots, JumpsWithTrace};
 ghost use Rattle.opt_pass.specs.Keeping.{KeepsAll, IsDone};
 
 use crate::laws::laws_hold;
@@ -143,10 +145,14 @@ pub fn optimise(
     ensures simulates { IfOk result (λ o. HasWords checked.now → Simulates checked.now id.trace entry.now o.piece o.at_guards o.at_end) }
     ensures piece { IfOk result (λ o. IsOf id entry.now o.piece) }
     ensures entries { IfOk result (λ o. HasEntries o.piece.ops o.at_guards) }
-    ensures end { IfOk result (λ o. EndsWith to o.at_end o.piece.ops) }
+    ensures end { IfOk result (λ o. EndsWith to (inputs_of (slice_get checked.now.traces to.trace)) o.at_end o.piece.ops) }
     ensures formed { IfOk result (λ o. (labels : PieceId → Option (List BoxId)) → HasInputs labels to (inputs_of (slice_get checked.now.traces to.trace)) → IsFormed checked.now labels o.piece) }
     ensures lawful { IfOk result (λ o. AreLawful checked.now o.at_guards o.at_end) }
     ensures small { IfOk result (λ o. IsSmall checked.now id.trace entry.now o.piece o.at_guards o.at_end) }
+    ensures frames { IfOk result (λ o. HasFramesOf (ops_at checked.now id.trace) o.piece.ops) }
+    ensures slots { IfOk result (λ o. HaveSlots (ops_at checked.now id.trace) o.at_guards) }
+    ensures jumps { IfOk result (λ o. JumpsWithTrace (ops_at checked.now id.trace) o.piece.ops) }
+    ensures constants { IfOk result (λ o. AddsFewConstants checked.now id.trace entry.now o.piece o.at_guards o.at_end) }
 {
     laws_hold();
     lawful_legs_can_begin();

@@ -1,0 +1,11 @@
+mod Sizes
+mod Weighing
+mod Guards
+mod Room
+mod Goaling
+mod Passed
+mod Serves
+mod Plainly
+mod Fitting
+mod Folded
+mod Entered

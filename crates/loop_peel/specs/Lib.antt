@@ -1,0 +1,5 @@
+pub mod Serving
+pub mod Peeling
+pub mod Making
+pub mod Going
+pub mod Laws

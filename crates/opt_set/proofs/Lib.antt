@@ -1,0 +1,5 @@
+mod Found
+mod Adding
+mod Whole
+mod Stepping
+mod Attached

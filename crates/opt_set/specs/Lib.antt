@@ -1,0 +1,4 @@
+pub mod Optimised
+pub mod Loops
+pub mod Attaching
+pub mod Causes

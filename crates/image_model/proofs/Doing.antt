@@ -27,6 +27,7 @@ use Rattle.asm_select.specs.Asked as asked
 use Rattle.image_runs.specs.Session.{Calls, Answered, Resumes, Stops, End, Shows, Full, Waiting, Misfitting, Lost, Host}
 use Rattle.image_runs.specs.Reached.{Comes}
 use Rattle.image_runs.specs.Selection.{Model, Placed, LeaveIs, ComesOff, CallsHost, AnswerDoes, Does, EndsBy, PieceDoes, exit_of, joined, start_of}
+use Rattle.image_model.specs.Ready.{IsReady, LeavesKinds, ReadyOn, StaysReady}
 use Rattle.image_model.specs.Modelled.{SameCalls, HoldsAt, told_at, model_of}
 use Rattle.image_model.specs.Laws.{codes_from, IsSelected, EndsSo, ServedSo, HostServes}
 use Rattle.image_model.proofs.CallsKept.{Alike, TurnKeeps, step_keeps_calls, closes_off}
@@ -117,32 +118,44 @@ module _ (code_follows : CodeFollows) (calls_follow : CallsFollow) (host : Host)
         let b = subst (λ (n : ℕ). Holds st (told all n) (drop n all) env s) (sym same) a in
         subst (λ (l : List OptOp). Holds st (told all (length done)) l env s) y.here b
 
-    next : (after : Opt) (t : State) (d : Calls) → Holds st (told_by op rest) rest after t → SameCalls after.world d → HoldsAt st (ops_at whole pl.id) (j + 1) after d t
-    next after t d k calls =
+    ready_now : HoldsAt st (ops_at whole pl.id) j env c s → StaysReady st.table (op ∷ rest) env
+    ready_now h =
+        let a = subst (λ (l : List OptOp). StaysReady st.table (drop j l) env) e h.2 in
+        let b = subst (λ (n : ℕ). StaysReady st.table (drop n all) env) (sym same) a in
+        subst (λ (l : List OptOp). StaysReady st.table l env) y.here b
+
+    ready_next : (after : Opt) → StaysReady st.table rest after → StaysReady st.table (drop (j + 1) (ops_at whole pl.id)) after
+    ready_next after k =
+        let a = subst (λ (l : List OptOp). StaysReady st.table l after) (sym y.after) k in
+        let b = subst (λ (n : ℕ). StaysReady st.table (drop (n + 1) all) after) same a in
+        subst (λ (l : List OptOp). StaysReady st.table (drop (j + 1) l) after) (sym e) b
+
+    next : (after : Opt) (t : State) (d : Calls) → Holds st (told_by op rest) rest after t → SameCalls after.world d → StaysReady st.table rest after → HoldsAt st (ops_at whole pl.id) (j + 1) after d t
+    next after t d k calls ready =
         let a = subst (λ (l : List OptOp). Holds st (told_by op rest) l after t) (sym y.after) k in
         let b = subst (λ (x : Told). Holds st x (drop (length done + 1) all) after t) (sym y.told_next) a in
         let g = subst (λ (n : ℕ). Holds st (told all (n + 1)) (drop (n + 1) all) after t) same b in
-        (subst (λ (l : List OptOp). Holds st (told l (j + 1)) (drop (j + 1) l) after t) (sym e) g, calls)
+        (subst (λ (l : List OptOp). Holds st (told l (j + 1)) (drop (j + 1) l) after t) (sym e) g, calls, ready_next after ready)
 
     named : slice_get (ops_at whole pl.id) j ≡ Some op
     named = ap (λ (l : List OptOp). slice_get l j) e ∙ ap (slice_get all) (sym same) ∙ get_middle done op rest
 
-    comes : (also : State → Type 0) (l : Leave) → ComesTo also st (pl.key + j) op X p s l → SameCalls (world_left l) c → ComesOff m pl j op X p s c l
-    comes also l f h = record {
+    comes : (also : State → Type 0) (l : Leave) → ComesTo also st (pl.key + j) op X p s l → SameCalls (world_left l) c → LeavesKinds st.table op l → ComesOff m pl j op X p s c l
+    comes also l f h kinds = record {
       slot = f.0;
       behind = f.1;
-      reach = comes_of p X s (f.0 ∷ f.1) (λ t r. (r.0.taken, (op, named, record { fit = r.0.fit; arena = r.0.arena; prebuilts = r.0.prebuilts; parts = r.0.parts; with = r.0.with }, h))) f.2;
+      reach = comes_of p X s (f.0 ∷ f.1) (λ t r. (r.0.taken, (op, named, record { fit = r.0.fit; arena = r.0.arena; prebuilts = r.0.prebuilts; parts = r.0.parts; with = r.0.with; kinds = kinds }, h))) f.2;
       kind = leave_is st op l f.2.t f.2.holds.0.with;
     }
 
-    follows : (also : State → Type 0) (turn : Turn Opt) → FollowsBy also st (pl.key + j) op rest X Y p s turn → TurnKeeps env.world turn → SameCalls env.world c → Does m pl j op X Y p s c env.world turn
-    follows also (On after) f k h = inl (comes_of p X s Y (λ t r. next after t c r.0 (same_calls env.world after.world c k h)) f)
-    follows also (Off (Fails n vs w)) f k h = comes also (Fails n vs w) f (same_calls env.world w c k h)
-    follows also (Off (Jumps vs w)) f k h = comes also (Jumps vs w) f (same_calls env.world w c k h)
-    follows also (Off (Finishes vs w)) f k h = comes also (Finishes vs w) f (same_calls env.world w c k h)
-    follows also (Off (Waits w)) f k h = absurd f
-    follows also (Off (Misfits w)) f k h = absurd f
-    follows also (Off (Wrong w)) f k h = tt
+    follows : (also : State → Type 0) (turn : Turn Opt) → FollowsBy also st (pl.key + j) op rest X Y p s turn → TurnKeeps env.world turn → SameCalls env.world c → ReadyOn st.table op (StaysReady st.table rest) turn → Does m pl j op X Y p s c env.world turn
+    follows also (On after) f k h r = inl (comes_of p X s Y (λ t x. next after t c x.0 (same_calls env.world after.world c k h) r) f)
+    follows also (Off (Fails n vs w)) f k h r = comes also (Fails n vs w) f (same_calls env.world w c k h) r
+    follows also (Off (Jumps vs w)) f k h r = comes also (Jumps vs w) f (same_calls env.world w c k h) r
+    follows also (Off (Finishes vs w)) f k h r = comes also (Finishes vs w) f (same_calls env.world w c k h) r
+    follows also (Off (Waits w)) f k h r = absurd f
+    follows also (Off (Misfits w)) f k h r = absurd f
+    follows also (Off (Wrong w)) f k h r = tt
 
     -- ---- a call
 
@@ -173,8 +186,8 @@ module _ (code_follows : CodeFollows) (calls_follow : CallsFollow) (host : Host)
       };
     }
 
-    served : (also : State → Type 0) (f : asked.Stops also st op env X p s) (turn : Turn Opt) → opt_step set.table op env ≡ turn → SameCalls env.world c → (o : Answered) → host.answers (entry_by op) c (in_host op f.q f.u) o → ServedSo set.table op env f.q f.u turn o
-    served also f turn is h o a = subst (λ (t : Turn Opt). ServedSo set.table op env f.q f.u t o) is (serves st op env f.q f.u c o z.table f.there h a)
+    served : (also : State → Type 0) (f : asked.Stops also st op env X p s) (turn : Turn Opt) → opt_step set.table op env ≡ turn → IsReady set.table op env → SameCalls env.world c → (o : Answered) → host.answers (entry_by op) c (in_host op f.q f.u) o → ServedSo set.table op env f.q f.u turn o
+    served also f turn is ready h o a = subst (λ (t : Turn Opt). ServedSo set.table op env f.q f.u t o) is (serves st op env f.q f.u c o z.table ready f.there h a)
 
     ends_so : (turn : Turn Opt) (d : Calls) (u : State) (end : End) → EndsSo set.table env.world turn d u end → EndsBy m env.world turn d u end
     ends_so (On after) d u (Shows state store) h = h
@@ -213,31 +226,41 @@ module _ (code_follows : CodeFollows) (calls_follow : CallsFollow) (host : Host)
     ends_so (Off (Wrong w)) d u (Misfitting n) h = h
     ends_so (Off (Wrong w)) d u (Lost at) h = h
 
-    off : (l : Leave) (q : ℕ) (u : State) (tail : List Slot) (o : Answered) → ServedSo set.table op env q u (Off l) o → AnswerDoes m pl j (q + call_size) tail Y env.world (Off l) (in_host op q u) o
-    off l q u tail (Resumes d v) h = absurd h
-    off l q u tail (Stops d end) h = ends_so (Off l) d (in_host op q u) end h
+    waits : (w : World) (q : ℕ) (u : State) (tail : List Slot) (o : Answered) → ServedSo set.table op env q u (Off (Waits w)) o → AnswerDoes m pl j (q + call_size) tail Y env.world (Off (Waits w)) (in_host op q u) o
+    waits w q u tail (Resumes d v) h = absurd h
+    waits w q u tail (Stops d end) h = ends_so (Off (Waits w)) d (in_host op q u) end h
 
-    on : (also : State → Type 0) (after : Opt) (f : asked.Stops also st op env X p s) → asked.Resumes also st op rest env after f.rest Y f.q f.u → (o : Answered) → ServedSo set.table op env f.q f.u (On after) o → AnswerDoes m pl j (f.q + call_size) f.rest Y env.world (On after) (in_host op f.q f.u) o
-    on also after f g (Resumes d v) (n, lost, arena, word, left, is, calls) =
+    misfits : (w : World) (q : ℕ) (u : State) (tail : List Slot) (o : Answered) → ServedSo set.table op env q u (Off (Misfits w)) o → AnswerDoes m pl j (q + call_size) tail Y env.world (Off (Misfits w)) (in_host op q u) o
+    misfits w q u tail (Resumes d v) h = absurd h
+    misfits w q u tail (Stops d end) h = ends_so (Off (Misfits w)) d (in_host op q u) end h
+
+    on : (also : State → Type 0) (after : Opt) (f : asked.Stops also st op env X p s) → asked.Resumes also st op rest env after f.rest Y f.q f.u → StaysReady st.table rest after → (o : Answered) → ServedSo set.table op env f.q f.u (On after) o → AnswerDoes m pl j (f.q + call_size) f.rest Y env.world (On after) (in_host op f.q f.u) o
+    on also after f g ready (Resumes d v) (n, lost, arena, word, left, is, calls) =
         let r = g n lost arena word (few f.q f.path.front f.rest f.path.split f.path.place) (subst (λ (t : Table). HostLeft t (given_by op after) env.world.objects after.world.objects n arena) (sym z.table) left) in
-        let back = comes_of (f.q + call_size) f.rest (returned op f.q f.u n lost arena) Y (λ t k. next after t d k.0 calls) r in
+        let back = comes_of (f.q + call_size) f.rest (returned op f.q f.u n lost arena) Y (λ t k. next after t d k.0 calls ready) r in
         (after, refl, subst (λ (x : State). Comes ⊥ (f.q + call_size) f.rest x Y (λ (t : State). HoldsAt st (ops_at whole pl.id) (j + 1) after d t)) (sym is) back, ap (λ (x : State). x.at) is)
-    on also after f g (Stops d end) h = ends_so (On after) d (in_host op f.q f.u) end h
+    on also after f g ready (Stops d end) h = ends_so (On after) d (in_host op f.q f.u) end h
 
-    asks : (also : State → Type 0) (turn : Turn Opt) → opt_step set.table op env ≡ turn → CallsBy also st op rest X Y p s env turn → SameCalls env.world c → Does m pl j op X Y p s c env.world turn
-    asks also (On after) is f h = inr (calls also (On after) f.0 (λ o a. on also after f.0 f.1 o (served also f.0 (On after) is h o a)))
-    asks also (Off (Waits w)) is f h = calls also (Off (Waits w)) f (λ o a. off (Waits w) f.q f.u f.rest o (served also f (Off (Waits w)) is h o a))
-    asks also (Off (Misfits w)) is f h = calls also (Off (Misfits w)) f (λ o a. off (Misfits w) f.q f.u f.rest o (served also f (Off (Misfits w)) is h o a))
-    asks also (Off (Wrong w)) is f h = tt
-    asks also (Off (Fails n vs w)) is f h = absurd f
-    asks also (Off (Jumps vs w)) is f h = absurd f
-    asks also (Off (Finishes vs w)) is f h = absurd f
+    asks : (also : State → Type 0) (turn : Turn Opt) → opt_step set.table op env ≡ turn → CallsBy also st op rest X Y p s env turn → IsReady set.table op env → ReadyOn st.table op (StaysReady st.table rest) turn → SameCalls env.world c → Does m pl j op X Y p s c env.world turn
+    asks also (On after) is f ready k h = inr (calls also (On after) f.0 (λ o a. on also after f.0 f.1 k o (served also f.0 (On after) is ready h o a)))
+    asks also (Off (Waits w)) is f ready k h = calls also (Off (Waits w)) f (λ o a. waits w f.q f.u f.rest o (served also f (Off (Waits w)) is ready h o a))
+    asks also (Off (Misfits w)) is f ready k h = calls also (Off (Misfits w)) f (λ o a. misfits w f.q f.u f.rest o (served also f (Off (Misfits w)) is ready h o a))
+    asks also (Off (Wrong w)) is f ready k h = tt
+    asks also (Off (Fails n vs w)) is f ready k h = absurd f
+    asks also (Off (Jumps vs w)) is f ready k h = absurd f
+    asks also (Off (Finishes vs w)) is f ready k h = absurd f
 
     -- ---- either
 
     does : HoldsAt st (ops_at whole pl.id) j env c s → s.at ≡ 0x40000000 + p → Does m pl j op X Y p s c env.world (opt_step set.table op env)
     does h at = by_choice y.chosen
       where
+        ready : StaysReady st.table (op ∷ rest) env
+        ready = ready_now h
+
+        goes : ReadyOn st.table op (StaysReady st.table rest) (opt_step set.table op env)
+        goes = subst (λ (t : Table). ReadyOn st.table op (StaysReady st.table rest) (opt_step t op env)) z.table ready.1
+
         by_choice : IsHere st (told all (length done)) op ⊎ asked.IsAsked st (pl.key + length done) op → Does m pl j op X Y p s c env.world (opt_step set.table op env)
         by_choice (inl here) =
             let also = Counts (loads_of op env) (stores_of op env) s in
@@ -245,13 +268,13 @@ module _ (code_follows : CodeFollows) (calls_follow : CallsFollow) (host : Host)
             let b = subst (λ (l : List Slot). FollowsBy also st (pl.key + length done) op rest (l ++ Y) Y p s (opt_step st.table op env)) (sym y.code) a in
             let g = subst (λ (n : ℕ). FollowsBy also st (pl.key + n) op rest X Y p s (opt_step st.table op env)) same b in
             let d = subst (λ (t : Table). FollowsBy also st (pl.key + j) op rest X Y p s (opt_step t op env)) z.table g in
-            follows also (opt_step set.table op env) d (step_keeps_calls st (told all (length done)) set.table op env here) h.1
+            follows also (opt_step set.table op env) d (step_keeps_calls st (told all (length done)) set.table op env here) h.1 goes
         by_choice (inr asked) =
             let also = Counts 0 0 s in
             let a = calls_follow st (pl.key + length done) (told all (length done)) op rest env Y p s z.serves z.hold y.apart y.safe y.words asked (now h) at in
             let b = subst (λ (l : List Slot). CallsBy also st op rest (l ++ Y) Y p s env (opt_step st.table op env)) (sym y.code) a in
             let d = subst (λ (t : Table). CallsBy also st op rest X Y p s env (opt_step t op env)) z.table b in
-            asks also (opt_step set.table op env) refl d h.1
+            asks also (opt_step set.table op env) refl d (subst (λ (t : Table). IsReady t op env) z.table ready.0) goes h.1
 
   pub piece_does : PieceDoes m pl
   piece_does = record {

@@ -35,6 +35,7 @@ use Rattle.asm_select.specs.Ended.{BoxesStand, ArgsStand, PlacesStand, LeavesWit
 use Rattle.asm_select.specs.Exited.{shown_by, StubExits, LabelHolds, LabelStands}
 use Rattle.image_runs.specs.Session.{Calls, Host}
 use Rattle.image_runs.specs.Image.{moved, Exits}
+use Rattle.image_model.specs.Ready.{StaysReady}
 use Rattle.image_model.specs.Modelled.{HoldsAt, IsLeftSo, LeftAt, model_of}
 
 value_moved : (n : ℕ) (t : State) (p : Place) → value (moved n t) p ≡ value t p
@@ -97,7 +98,7 @@ leaves_moved st (opt.Finish value) (Misfits w) n t h = h
 leaves_moved st (opt.Finish value) (Wrong w) n t h = h
 
 left_moved : (st : Setting) (op : OptOp) (l : Leave) (n : ℕ) (t : State) → IsLeftSo st op l t → IsLeftSo st op l (moved n t)
-left_moved st op l n t h = record { fit = fit_moved n t h.fit; arena = h.arena; prebuilts = h.prebuilts; parts = h.parts; with = leaves_moved st op l n t h.with }
+left_moved st op l n t h = record { fit = fit_moved n t h.fit; arena = h.arena; prebuilts = h.prebuilts; parts = h.parts; with = leaves_moved st op l n t h.with; kinds = h.kinds }
 
 -- ---- a stub
 
@@ -128,14 +129,15 @@ jump_places st (opt.Finish value) vs w t h = absurd h
 
 pub jumps_hold : LabelHolds → LabelStands → (whole ps : List Piece) (settings : PieceId → Setting) (q r : PieceId) (j : ℕ) (vs : List Value) (w : World) (c : Calls) (n : ℕ) (t : State)
     → (settings r).table ≡ (settings q).table → AllZip (λ (p : Place) (b : BoxId). (settings r).at b.number ≡ p) (settings q).to (label_at ps r)
-    → LeftAt (settings q) (ops_at whole q) j (Jumps vs w) c t → HoldsAt (settings r) (ops_at whole r) 0 (begin_at ps r vs w) c (moved n t)
-jumps_hold holds stands whole ps settings q r j vs w c n t table label (op, named, left, calls) =
+    → LeftAt (settings q) (ops_at whole q) j (Jumps vs w) c t → StaysReady (settings r).table (ops_at whole r) (begin_at ps r vs w)
+    → HoldsAt (settings r) (ops_at whole r) 0 (begin_at ps r vs w) c (moved n t)
+jumps_hold holds stands whole ps settings q r j vs w c n t table label (op, named, left, calls) ready =
     let st = settings r in
     let there = places_moved (address_of w.objects) n t (settings q).to vs (jump_places (settings q) op vs w t left.with) in
     let boxes = stands st (settings q).to (label_at ps r) (address_of w.objects) vs (moved n t) label there in
     let arena = subst (λ (x : Table). Stands x w.objects t.arena) (sym table) left.arena in
     let prebuilts = subst (λ (x : Table). PrebuiltsStand x w.objects) (sym table) left.prebuilts in
-    (holds st (label_at ps r) (ops_at whole r) vs w (moved n t) (fit_moved n t left.fit) arena prebuilts left.parts boxes, calls)
+    (holds st (label_at ps r) (ops_at whole r) vs w (moved n t) (fit_moved n t left.fit) arena prebuilts left.parts boxes, calls, ready)
 
 -- ---- a bridge
 
@@ -160,12 +162,12 @@ op_or d (Some op) = op
 pub guards_hold : LabelHolds → (whole ps : List Piece) (settings : PieceId → Setting) (q r : PieceId) (j k : ℕ) (op : OptOp) (vs : List Value) (w : World) (c : Calls) (t u : State)
     → (settings r).table ≡ (settings q).table → slice_get (ops_at whole q) j ≡ Some op → LeftAt (settings q) (ops_at whole q) j (Fails k vs w) c t
     → IsFit u → SameArena t u → AllZip (λ (a b : BoxId). value u ((settings r).at b.number) ≡ value t ((settings q).at a.number)) (shown_by op) (label_at ps r)
-    → HoldsAt (settings r) (ops_at whole r) 0 (begin_at ps r vs (failed w)) c u
-guards_hold holds whole ps settings q r j k op vs w c t u table there (op2, named, left, calls) fit same moves =
+    → StaysReady (settings r).table (ops_at whole r) (begin_at ps r vs (failed w)) → HoldsAt (settings r) (ops_at whole r) 0 (begin_at ps r vs (failed w)) c u
+guards_hold holds whole ps settings q r j k op vs w c t u table there (op2, named, left, calls) fit same moves ready =
     let st = settings r in
     let one : op2 ≡ op = ap (op_or op) (sym named ∙ there) in
     let with = subst (λ (x : OptOp). LeavesWith (settings q) x (Fails k vs w) t) one left.with in
     let boxes = brought st.at (settings q).at (address_of w.objects) t u (shown_by op) (label_at ps r) vs moves (shown_boxes (settings q) op k vs w t with) in
     let arena = subst (λ (x : Table). Stands x w.objects u.arena) (sym table) (subst (λ (a : Arena). Stands (settings q).table w.objects a) (sym same.arena) left.arena) in
     let prebuilts = subst (λ (x : Table). PrebuiltsStand x w.objects) (sym table) left.prebuilts in
-    (holds st (label_at ps r) (ops_at whole r) vs (failed w) u fit arena prebuilts left.parts boxes, record { log = calls.log; answers = calls.answers })
+    (holds st (label_at ps r) (ops_at whole r) vs (failed w) u fit arena prebuilts left.parts boxes, record { log = calls.log; answers = calls.answers }, ready)

@@ -8,7 +8,7 @@ use Rattle.trace_ops.specs.declared.piece.PieceId.{PieceId}
 use Rattle.trace_ops.specs.declared.piece.OptOp.{OptOp}
 use Rattle.trace_ops.specs.declared.piece.OptOp.TheVariants as opt
 use Rattle.target_base.specs.Arena.{Arena}
-use Rattle.trace_meaning.specs.Legs.{Leave, Fails, Jumps, Waits, Misfits, Turn, On, Off}
+use Rattle.trace_meaning.specs.Legs.{Leave, Fails, Jumps, Waits, Misfits, Wrong, Turn, On, Off}
 use Rattle.opt_meaning.specs.Step.{Opt, opt_step}
 use Rattle.opt_meaning.specs.Pieces.{ops_at, label_at, begin_at}
 use Rattle.x64_machine.specs.State.{State, target}
@@ -30,6 +30,7 @@ use Rattle.target_base.specs.declared.place.Place.{Place}
 use Rattle.trace_meaning.specs.declared.value.Value.{Value}
 use Rattle.trace_meaning.specs.World.{World, failed}
 use Rattle.std.specs.List.{AllZip}
+use Rattle.image_model.specs.Ready.{IsReady, StaysReady}
 use Rattle.image_model.specs.Modelled.{SameCalls, Fills, HoldsAt, LeftAt, model_of}
 
 -- the slots of each operation, of which the first has this key
@@ -66,18 +67,19 @@ EndsSo t u (Off (Waits w)) c s Waiting = SameCalls w c
 EndsSo t u (Off (Misfits w)) c s (Misfitting n) = SameCalls w c × (n ≡ length w.log - 1)
 EndsSo t u turn c s end = ⊥
 
--- what the host answers, where an operation asks it and turns out so
+-- what the host answers, where an operation asks it and turns out so; of a wrong one nothing is said
 abbrev pub ServedSo : Table → OptOp → Opt → ℕ → State → Turn Opt → Answered → Type 0
+ServedSo t op env q u (Off (Wrong w)) o = Unit {0}
 ServedSo t op env q u (On after) (Resumes c v) =
     (z lost : ℤ) × (arena : Arena) × IsWord lost × HostLeft t (given_by op after) env.world.objects after.world.objects z arena × (v ≡ returned op q u z lost arena) × SameCalls after.world c
 ServedSo t op env q u (Off l) (Resumes c v) = ⊥
 ServedSo t op env q u turn (Stops c end) = EndsSo t env.world turn c (in_host op q u) end
 
--- a host serves each operation that asks it
+-- a host serves each operation that asks it and may do so
 abbrev pub HostServes : Host → Table → Type 0
 HostServes host t =
     (st : Setting) (op : OptOp) (env : Opt) (p : ℕ) (u : State) (c : Calls) (o : Answered)
-    → st.table ≡ t → AtCall st op env p u → SameCalls env.world c → host.answers (entry_by op) c (in_host op p u) o → ServedSo t op env p u (opt_step t op env) o
+    → st.table ≡ t → IsReady t op env → AtCall st op env p u → SameCalls env.world c → host.answers (entry_by op) c (in_host op p u) o → ServedSo t op env p u (opt_step t op env) o
 
 -- so selected pieces do what an image asks of a piece
 abbrev pub SelectedPiecesDo : Host → Type 0
@@ -94,12 +96,13 @@ StubsExit host =
     → LeftAt (settings q) (ops_at whole q) j l c t → exit < 2 ^ 32 → n ≡ 0x40000000 + at → target (0x40000000 + (at + sizes_of (puts (stub_code to exit)))) to ≡ 0x40000000 + common
     → Exits (model_of host set whole settings ps) q j l c at common exit to (moved n t)
 
--- into a piece to whose label's places the values were brought: it begins
+-- into a piece to whose label's places the values were brought: it begins, where it stays ready from these values
 abbrev pub JumpsHold : Type 0
 JumpsHold =
     (whole ps : List Piece) (settings : PieceId → Setting) (q r : PieceId) (j : ℕ) (vs : List Value) (w : World) (c : Calls) (n : ℕ) (t : State)
     → (settings r).table ≡ (settings q).table → AllZip (λ (p : Place) (b : BoxId). (settings r).at b.number ≡ p) (settings q).to (label_at ps r)
-    → LeftAt (settings q) (ops_at whole q) j (Jumps vs w) c t → HoldsAt (settings r) (ops_at whole r) 0 (begin_at ps r vs w) c (moved n t)
+    → LeftAt (settings q) (ops_at whole q) j (Jumps vs w) c t → StaysReady (settings r).table (ops_at whole r) (begin_at ps r vs w)
+    → HoldsAt (settings r) (ops_at whole r) 0 (begin_at ps r vs w) c (moved n t)
 
 -- into a bridge's piece, when its entry moves have brought the guard's boxes to the places of its label: it begins
 abbrev pub GuardsHold : Type 0
@@ -107,4 +110,4 @@ GuardsHold =
     (whole ps : List Piece) (settings : PieceId → Setting) (q r : PieceId) (j k : ℕ) (op : OptOp) (vs : List Value) (w : World) (c : Calls) (t u : State)
     → (settings r).table ≡ (settings q).table → slice_get (ops_at whole q) j ≡ Some op → LeftAt (settings q) (ops_at whole q) j (Fails k vs w) c t
     → IsFit u → SameArena t u → AllZip (λ (a b : BoxId). value u ((settings r).at b.number) ≡ value t ((settings q).at a.number)) (shown_by op) (label_at ps r)
-    → HoldsAt (settings r) (ops_at whole r) 0 (begin_at ps r vs (failed w)) c u
+    → StaysReady (settings r).table (ops_at whole r) (begin_at ps r vs (failed w)) → HoldsAt (settings r) (ops_at whole r) 0 (begin_at ps r vs (failed w)) c u

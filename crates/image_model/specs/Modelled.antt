@@ -24,6 +24,7 @@ use Rattle.asm_select.specs.Ended.{LeavesWith, AreParts, world_of, values_of}
 use Rattle.asm_select.specs.Exited.{saved_at}
 use Rattle.image_runs.specs.Session.{Calls, Host}
 use Rattle.image_runs.specs.Selection.{Model, ended}
+use Rattle.image_model.specs.Ready.{LeavesKinds, StaysReady}
 
 -- what the flags tell in front of an operation, by its place
 abbrev pub told_at : Told → List OptOp → ℕ → Told
@@ -38,7 +39,7 @@ pub record SameCalls (w : World) (c : Calls) : Type 0 where
 
 -- in front of operation j
 abbrev pub HoldsAt : Setting → List OptOp → ℕ → Opt → Calls → State → Type 0
-HoldsAt st ops j env c s = Holds st (told_at tell.Nothing ops j) (drop j ops) env s × SameCalls env.world c
+HoldsAt st ops j env c s = Holds st (told_at tell.Nothing ops j) (drop j ops) env s × SameCalls env.world c × StaysReady st.table (drop j ops) env
 
 -- an operation is left so
 pub record IsLeftSo (st : Setting) (op : OptOp) (l : Leave) (t : State) : Type 0 where
@@ -47,6 +48,7 @@ pub record IsLeftSo (st : Setting) (op : OptOp) (l : Leave) (t : State) : Type 0
   pub prebuilts : PrebuiltsStand st.table (world_of l).objects
   pub parts : AreParts (length (world_of l).objects) (values_of l)
   pub with : LeavesWith st op l t
+  pub kinds : LeavesKinds st.table op l
 
 -- operation j is left so
 abbrev pub LeftAt : Setting → List OptOp → ℕ → Leave → Calls → State → Type 0

@@ -1,0 +1,13 @@
+mod Registers
+mod Shapes
+mod Passing
+mod Worlds
+mod Making
+mod Functions
+mod Serving
+mod Starting
+mod Instructing
+mod Saved
+mod Bases
+mod Exits
+mod Finishes

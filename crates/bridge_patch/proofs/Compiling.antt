@@ -1,9 +1,6 @@
 -- The pieces of all loops can be planned, and there is room for them.
-use Rattle.std.proofs.Common.{◌≡◌, ℕ, zero, suc, ◌+◌, ◌*◌, ◌<◌, ◌≤◌, ◌^◌, Option, Some, None, List, [], ◌∷◌, ◌++◌, length, refl, sym, ap, ◌∙◌, subst, arith}
-use Rattle.std.specs.Prelude.{slice_get, map}
+use Rattle.std.proofs.Common.{◌≡◌, ℕ, zero, suc, ◌+◌, ◌*◌, ◌<◌, ◌≤◌, ◌^◌, Option, List, [], ◌∷◌, ◌++◌, length, sym, ap, ◌∙◌, subst, arith}
 use Rattle.std.specs.List.{All, AllByRecursion}
-use Rattle.std.specs.Option.{IsSomeAnd}
-use Rattle.std.proofs.lemmas.Option.{slice_get_within}
 use Rattle.trace_ops.specs.declared.trace.BoxId.{BoxId}
 use Rattle.trace_ops.specs.declared.trace.Origin.{Origin}
 use Rattle.trace_ops.specs.declared.trace.Origin.TheVariants.{Loop, Bridge}
@@ -26,7 +23,7 @@ use Rattle.bridge_patch.specs.Planning.{CanPlan, room_for, can_all}
 -- ---- weights
 
 -- so many from place k on
-abbrev sum_range : (ℕ → ℕ) → ℕ → ℕ → ℕ
+abbrev pub sum_range : (ℕ → ℕ) → ℕ → ℕ → ℕ
 sum_range f k zero = 0
 sum_range f k (suc n) = f k + sum_range f (k + 1) n
 
@@ -39,12 +36,12 @@ range_below f k (suc n) =
     let step : sum_below f (k + 1) ≡ sum_below f k + f k = ap (sum_below f) one in
     omega (arith, step, range_below f (k + 1) n, ap (sum_below f) end)
 
-whole_range : (f : ℕ → ℕ) (n : ℕ) → sum_range f 0 n ≡ sum_below f n
+pub whole_range : (f : ℕ → ℕ) (n : ℕ) → sum_range f 0 n ≡ sum_below f n
 unfolding sum_below
 whole_range f n = let e : 0 + n ≡ n = omega arith in omega (arith, range_below f 0 n, ap (sum_below f) e)
 
 -- of these places
-abbrev total : (ℕ → ℕ) → List ℕ → ℕ
+abbrev pub total : (ℕ → ℕ) → List ℕ → ℕ
 total f [] = 0
 total f (k ∷ ks) = f k + total f ks
 
@@ -52,7 +49,7 @@ sum_if : (f : ℕ → ℕ) (k n : ℕ) (rest : List ℕ) (o : Origin) → total 
 sum_if f k n rest Loop le = omega (arith, le)
 sum_if f k n rest (Bridge parent guard) le = omega (arith, le)
 
-loops_sum : (f : ℕ → ℕ) (k : ℕ) (ts : List Trace) → total f (loops_from k ts) ≤ sum_range f k (length ts)
+pub loops_sum : (f : ℕ → ℕ) (k : ℕ) (ts : List Trace) → total f (loops_from k ts) ≤ sum_range f k (length ts)
 loops_sum f k [] = omega arith
 loops_sum f k (t ∷ ts) = sum_if f k (sum_range f (k + 1) (length ts)) (loops_from (k + 1) ts) t.origin (loops_sum f (k + 1) ts)
 
@@ -60,7 +57,7 @@ few_if : (k n : ℕ) (rest : List ℕ) (o : Origin) → length rest ≤ n → le
 few_if k n rest Loop le = omega (arith, le)
 few_if k n rest (Bridge parent guard) le = omega (arith, le)
 
-loops_few : (k : ℕ) (ts : List Trace) → length (loops_from k ts) ≤ length ts
+pub loops_few : (k : ℕ) (ts : List Trace) → length (loops_from k ts) ≤ length ts
 loops_few k [] = omega arith
 loops_few k (t ∷ ts) = few_if k (length ts) (loops_from (k + 1) ts) t.origin (loops_few (k + 1) ts)
 
@@ -94,7 +91,7 @@ abbrev Fit : TraceSet → ℕ → List Piece → ℕ → Type 0
 Fit set registers ps n = can_all set registers ps × (room_for ps ≤ n)
 
 fit_pieces : (set : TraceSet) (label_of : PieceId → Option (List BoxId)) (registers k n : ℕ) (ps rest : List Piece) → IsInRange set → (3 ≤ registers) × (registers ≤ 12) → ArePiecesOf k ps → trace_weight set k ≤ 131072 → Hold set label_of (ps ++ rest)
-    → (Hold set label_of rest → Fit set registers rest n) → Fit set registers (ps ++ rest) (8 + 256 * trace_weight set k + n)
+    → (Hold set label_of rest → Fit set registers rest n) → Fit set registers (ps ++ rest) (128 + 256 * trace_weight set k + n)
 fit_pieces set label_of registers k n [] rest range within e le h r = absurd e
 fit_pieces set label_of registers k n (p ∷ []) rest range within e le h r =
     let t : p.id.trace ≡ k = ap (λ (q : PieceId). q.trace) e in
@@ -109,12 +106,12 @@ fit_pieces set label_of registers k n (p ∷ q ∷ []) rest range within e le h 
 fit_pieces set label_of registers k n (p ∷ q ∷ x ∷ more) rest range within e le h r = absurd e
 
 fit_loops : (set : TraceSet) (label_of : PieceId → Option (List BoxId)) (registers : ℕ) (ks : List ℕ) (os : List OptTrace) → IsInRange set → (3 ≤ registers) × (registers ≤ 12) → AreOfLoops ks os → total (trace_weight set) ks ≤ 131072 → Hold set label_of (all_pieces os)
-    → Fit set registers (all_pieces os) (8 * length ks + 256 * total (trace_weight set) ks)
+    → Fit set registers (all_pieces os) (128 * length ks + 256 * total (trace_weight set) ks)
 fit_loops set label_of registers [] [] range within e le h = (tt, omega arith)
 fit_loops set label_of registers [] (o ∷ os) range within e le h = absurd e
 fit_loops set label_of registers (k ∷ ks) [] range within e le h = absurd e
 fit_loops set label_of registers (k ∷ ks) (o ∷ os) range within e le h =
-    let n = 8 * length ks + 256 * total (trace_weight set) ks in
+    let n = 128 * length ks + 256 * total (trace_weight set) ks in
     let f = fit_pieces set label_of registers k n o.pieces (all_pieces os) range within e.0 (omega (arith, le)) h (λ (g : Hold set label_of (all_pieces os)). fit_loops set label_of registers ks os range within e.1 (omega (arith, le)) g) in
     (f.0, omega (arith, f.1))
 
@@ -126,10 +123,18 @@ can_lay set loops registers h =
     let f = fit_loops set (label_in (all_pieces loops)) registers ks loops h.range h.within h.each light (record { sound = h.sound; words = h.words; guards = h.guards }) in
     (f.0, omega (arith, f.1, loops_few 0 set.traces, h.range.few_traces, light))
 
+pub room_used : (set : TraceSet) (loops : List OptTrace) (registers : ℕ) → CanCompile set loops registers → room_for (all_pieces loops) ≤ 128 * 256 + 256 * weight_of set
+room_used set loops registers h =
+    let w = trace_weight set in
+    let ks = loops_from 0 set.traces in
+    let light : total w ks ≤ weight_of set = omega (arith, loops_sum w 0 set.traces, whole_range w (length set.traces)) in
+    let f = fit_loops set (label_in (all_pieces loops)) registers ks loops h.range h.within h.each (omega (arith, light, h.light)) (record { sound = h.sound; words = h.words; guards = h.guards }) in
+    omega (arith, f.1, loops_few 0 set.traces, h.range.few_traces, light)
+
 -- ---- the image
 
-pub image_of : (set : TraceSet) (ps : List Piece) (laid : Laid) (image : Imaged) → IsLaid set ps laid → image.bytes ≡ laid.bytes.items → image.pieces ≡ laid.pieces.items → image.exits ≡ laid.exits.items → IsImage set ps image
-image_of set ps laid image h b p e = record {
+pub image_of : (set : TraceSet) (registers : ℕ) (ps : List Piece) (laid : Laid) (image : Imaged) → IsLaid set registers ps laid → image.bytes ≡ laid.bytes.items → image.pieces ≡ laid.pieces.items → image.exits ≡ laid.exits.items → IsImage set ps image
+image_of set registers ps laid image h b p e = record {
   placed = h.placed;
   pieces = h.pieces;
   fronts = h.fronts;

@@ -8,3 +8,4 @@ pub mod Targets
 pub mod Building
 pub mod LayingAll
 pub mod Compiling
+pub mod Compiled

@@ -1,6 +1,6 @@
 -- A piece that can be planned can be placed, selected and numbered, and its instructions are short.
-use Rattle.std.proofs.Common.{◌≡◌, ℕ, zero, suc, ◌+◌, ◌-◌, ◌*◌, ◌<◌, ◌≤◌, ◌^◌, Bool, true, false, cond, List, [], ◌∷◌, ◌++◌, length, get_or, Option, Some, None, refl, sym, ap, ◌∙◌, subst, arith, ℤ, pos, length-append}
-use Rattle.std.specs.Prelude.{slice_get, sum_by, IsTrue, max, map}
+use Rattle.std.proofs.Common.{◌≡◌, ℕ, ◌+◌, ◌-◌, ◌*◌, ◌<◌, ◌≤◌, Bool, true, false, cond, List, [], ◌∷◌, length, Option, Some, None, refl, sym, ap, ◌∙◌, subst, arith, ℤ, pos, length-append}
+use Rattle.std.specs.Prelude.{slice_get, sum_by, map}
 use Rattle.std.specs.List.{All, flat_map}
 use Rattle.std.specs.Int.{w32}
 use Rattle.std.specs.Prelude.{FitsSigned}
@@ -8,13 +8,11 @@ use Rattle.std.proofs.lemmas.Int.{ints}
 use Rattle.std.proofs.lemmas.List.Sums.{sum_by-cons}
 use Rattle.std.proofs.lemmas.List.Elements.{All-get_or}
 use Rattle.std.proofs.lemmas.Option.{slice_get_within, get_or_from_slice_get}
-use Rattle.trace_ops.specs.declared.trace.Arg.{Arg}
 use Rattle.trace_ops.specs.declared.trace.TraceSet.{TraceSet}
-use Rattle.trace_ops.specs.declared.piece.PieceId.{PieceId}
 use Rattle.trace_ops.specs.declared.piece.OptOp.{OptOp}
 use Rattle.trace_ops.specs.declared.piece.OptOp.TheVariants as opt
 use Rattle.trace_ops.specs.declared.piece.Piece.{Piece}
-use Rattle.trace_ops.specs.Pieces.{args_of, results_of, size_of, jump_args, defined_by}
+use Rattle.trace_ops.specs.Pieces.{args_of, results_of, jump_args, defined_by}
 use Rattle.trace_ops.specs.Weights.{trace_weight}
 use Rattle.target_base.specs.declared.place.Place.{Place}
 use Rattle.linear_scan.specs.declared.places.Places.{Places}
@@ -24,17 +22,17 @@ use Rattle.x64_encode.specs.Form.{spelling}
 use Rattle.guard_exit.specs.Codes.{stub_code}
 use Rattle.asm_select.specs.declared.selected.Selected.{Selected}
 use Rattle.asm_select.specs.declared.told.Told.TheVariants as tell
-use Rattle.asm_select.specs.Slots.{puts, sizes_of, instrs_of, jumps_from, unset}
+use Rattle.asm_select.specs.Slots.{puts, sizes_of, jumps_from, unset}
 use Rattle.asm_select.specs.Chosen.{all_code}
 use Rattle.asm_select.specs.Laid.{has_stub, stub_sizes, ChosenHaveRows}
-use Rattle.asm_select.specs.Selecting.{AreTargets, CanSelect, IsSelected}
+use Rattle.asm_select.specs.Selecting.{CanSelect, IsSelected}
 use Rattle.code_layout.specs.Emitting.{AllHaveRows, KeysBelow, total_size}
 use Rattle.code_layout.specs.Chosen.{ChosenJumps}
 use Rattle.code_layout.specs.Laws.{SlotsHaveRows}
-use Rattle.asm_select.specs.Fitting.{bytes_in, with_key, Fits, SelectedFits, IsShort}
-use Rattle.bridge_patch.specs.Pieces.{exits_in, label_places, words_from}
-use Rattle.bridge_patch.specs.Planning.{CanPlan, CanPlace, IsFitted, count_of, jump_count}
-use Rattle.bridge_patch.proofs.Labels.{words_long, words_distinct, words_few, words_targets}
+use Rattle.asm_select.specs.Fitting.{bytes_in, with_key, SelectedFits, IsShort}
+use Rattle.bridge_patch.specs.Pieces.{exits_in, label_places}
+use Rattle.bridge_patch.specs.Planning.{CanPlan, CanPlace, HasEnds, IsFitted, count_of, jump_count}
+use Rattle.bridge_patch.proofs.Labels.{words_long, words_distinct, words_few, words_lawful, words_targets}
 
 -- ---- numbers
 
@@ -59,26 +57,25 @@ count_small ops i m None all e = omega arith
 count_small ops i m (Some op) all e =
     subst (λ (x : OptOp). jump_args x ≤ m) (get_or_from_slice_get ops i op op e) (All-get_or (λ (x : OptOp). jump_args x ≤ m) ops i op (slice_get_within ops i op e) all)
 
-jumps_few : (set : TraceSet) (piece : Piece) (registers : ℕ) → CanPlan set piece registers → jump_count piece.ops ≤ 131136
+pub jumps_few : (set : TraceSet) (piece : Piece) (registers : ℕ) → CanPlan set piece registers → jump_count piece.ops ≤ 131136
 jumps_few set piece registers h =
     let le = count_small piece.ops (length piece.ops - 1) (trace_weight set piece.id.trace + 64) (slice_get piece.ops (length piece.ops - 1)) h.sound.few_jump_args refl in
     omega (arith, le, h.weight)
 
 -- ---- selection
 
-pub can_select : (set : TraceSet) (piece : Piece) (registers : ℕ) (places : Places) → CanPlan set piece registers → Allocated piece registers (label_places (length piece.label)) places → CanSelect set piece places (label_places (jump_count piece.ops))
-can_select set piece registers places h a =
+pub loop_ends : (set : TraceSet) (piece : Piece) (registers : ℕ) → CanPlan set piece registers → HasEnds piece registers (label_places (length piece.label)) (label_places (jump_count piece.ops))
+loop_ends set piece registers h =
     let n = jump_count piece.ops in
     let few : n ≤ 131136 = jumps_few set piece registers h in
-    let used : words_used (label_places (length piece.label)) ≤ 16 + length piece.label = words_few 16 (length piece.label) (omega arith) in
-    let label : length piece.label < 2 * trace_weight set piece.id.trace + 65 = label_few piece (2 * trace_weight set piece.id.trace + 65) (omega (arith, h.sound.few_boxes)) in record {
-      label_of = h.label_of;
-      sound = h.sound;
-      few = (can_place set piece registers h).few;
-      registers = registers;
-      label = label_places (length piece.label);
-      allocated = a;
-      words = omega (arith, a.few, a.each, used, label, few, words_long 16 n, h.sound.few_boxes, h.weight);
+    let label : length piece.label < 2 * trace_weight set piece.id.trace + 65 = label_few piece (2 * trace_weight set piece.id.trace + 65) (omega (arith, h.sound.few_boxes)) in
+    let used : words_used (label_places (length piece.label)) ≤ 16 + length piece.label = words_few 16 (length piece.label) (omega arith) in record {
+      labelled = record {
+        long = words_long 16 (length piece.label);
+        lawful = words_lawful registers (length piece.label) piece (omega (arith, label, h.weight));
+        distinct = words_distinct (length piece.label);
+      };
+      few = omega (arith, used, label, h.weight);
       targets = record {
         each = λ i p e. words_targets n i p (omega (arith, few)) e;
         distinct = words_distinct n;
@@ -88,7 +85,20 @@ can_select set piece registers places h a =
             let c : jump_count piece.ops ≡ length args = ap (λ (i : ℕ). count_of (slice_get piece.ops i)) m ∙ ap count_of e in
             sym c ∙ sym (words_long 16 n);
       };
+      short = omega (arith, words_long 16 n, few);
     }
+
+pub can_select : (set : TraceSet) (piece : Piece) (registers : ℕ) (label to : List Place) (places : Places) → CanPlan set piece registers → HasEnds piece registers label to → Allocated piece registers label places → CanSelect set piece places to
+can_select set piece registers label to places h ends a = record {
+  label_of = h.label_of;
+  sound = h.sound;
+  few = (can_place set piece registers h).few;
+  registers = registers;
+  label = label;
+  allocated = a;
+  words = omega (arith, a.few, a.each, ends.few, ends.short, h.sound.few_boxes, h.weight);
+  targets = ends.targets;
+}
 
 -- ---- bytes
 
@@ -119,11 +129,11 @@ same_key ((m, k) ∷ js) =
     let n : 0 + k ≡ k = omega arith in
     ap (λ (i : ℕ). (m, i) ∷ map (with_key 0) js) n ∙ ap (λ (l : List (ℕ × ℕ)). (m, k) ∷ l) (same_key js)
 
-pub fitted : SelectedFits → ChosenHaveRows → SlotsHaveRows → ChosenJumps → (set : TraceSet) (piece : Piece) (registers : ℕ) (places : Places) (s : Selected)
-    → CanPlan set piece registers → Allocated piece registers (label_places (length piece.label)) places → IsSelected set piece places (label_places (jump_count piece.ops)) s → IsShort set piece s → IsFitted set piece registers places s
-fitted fits have emitted jumps set piece registers places s h a sel short =
-    let can = can_select set piece registers places h a in
-    let f = fits set piece places (label_places (jump_count piece.ops)) 0 s can h.table h.words sel in
+pub fitted : SelectedFits → ChosenHaveRows → SlotsHaveRows → ChosenJumps → (set : TraceSet) (piece : Piece) (registers : ℕ) (label to : List Place) (places : Places) (s : Selected)
+    → CanPlan set piece registers → HasEnds piece registers label to → Allocated piece registers label places → IsSelected set piece places to s → IsShort set piece s → IsFitted set piece label to registers places s
+fitted fits have emitted jumps set piece registers label to places s h ends a sel short =
+    let can = can_select set piece registers label to places h ends a in
+    let f = fits set piece places to 0 s can h.table h.words sel in
     let rows = emitted (all_code f.c 0 tell.Nothing piece.ops) (have unset f.c 0 tell.Nothing piece.ops f.serves (λ k. zero_near) f.hold f.chosen) in record {
       allocated = a;
       can = can;

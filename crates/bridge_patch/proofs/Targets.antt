@@ -1,30 +1,24 @@
 -- Where the jumps of a planned piece lead.
-use Rattle.std.proofs.Common.{◌≡◌, ℕ, zero, suc, ◌+◌, ◌*◌, ◌<◌, ◌≤◌, ◌^◌, Bool, true, false, cond, List, [], ◌∷◌, ◌++◌, length, get_or, refl, sym, ap, ◌∙◌, subst, arith, negsuc}
+use Rattle.std.proofs.Common.{◌≡◌, ℕ, zero, suc, ◌+◌, ◌*◌, ◌<◌, ◌≤◌, ◌^◌, Bool, true, false, cond, List, [], ◌∷◌, ◌++◌, length, get_or, refl, ap, ◌∙◌, arith}
 use Rattle.std.specs.List.{All}
-use Rattle.std.proofs.lemmas.Int.{ints}
 use Rattle.std.proofs.lemmas.List.Elements.{All-from_get_or}
-use Rattle.trace_ops.specs.declared.piece.Half.{Half}
-use Rattle.trace_ops.specs.declared.piece.Half.TheVariants.{Pre, Body}
 use Rattle.trace_ops.specs.declared.piece.PieceId.{PieceId}
 use Rattle.trace_ops.specs.declared.piece.OptOp.{OptOp}
 use Rattle.trace_ops.specs.declared.piece.OptOp.TheVariants as opt
 use Rattle.opt_meaning.specs.Pieces.{same_piece}
-use Rattle.asm_select.specs.Given.{where_in}
 use Rattle.asm_select.specs.Chosen.{Where}
 use Rattle.asm_select.specs.Laid.{has_stub}
 use Rattle.guard_exit.specs.declared.row.ExitRow.{ExitRow}
-use Rattle.code_layout.specs.Emitting.{AllHaveRows, listed}
-use Rattle.bridge_patch.specs.declared.plan.Plan.{Plan}
-use Rattle.bridge_patch.specs.Pieces.{exits_in, loop_front, rows_of_op, rows_from}
-use Rattle.bridge_patch.specs.Planning.{planned_start, target_of, targets_from, StartsBelow}
+use Rattle.bridge_patch.specs.Pieces.{exits_in, rows_of_op, rows_from}
+use Rattle.bridge_patch.specs.Planning.{start_listed, target_of, targets_from, StartsBelow}
 
 if_near : (b : Bool) (x y : ℕ) → x < 2 ^ 31 → y < 2 ^ 31 → cond b x y < 2 ^ 31
 if_near true x y hx hy = hx
 if_near false x y hx hy = hy
 
-pub starts_near : (xs : List Plan) (q : PieceId) → StartsBelow xs → planned_start xs q < 2 ^ 31
+pub starts_near : (xs : List (PieceId × ℕ)) (q : PieceId) → StartsBelow xs → start_listed xs q < 2 ^ 31
 starts_near [] q h = omega arith
-starts_near (x ∷ xs) q h = if_near (same_piece q x.id) x.start (planned_start xs q) h.0 (starts_near xs q h.1)
+starts_near (x ∷ xs) q h = if_near (same_piece q x.0) x.1 (start_listed xs q) h.0 (starts_near xs q h.1)
 
 target_near : (s : PieceId → ℕ) (stub : ℕ) (op : OptOp) → ((q : PieceId) → s q < 2 ^ 31) → stub < 2 ^ 31 → target_of s stub op < 2 ^ 31
 target_near s stub (opt.Plain operation r args d) hs lt = omega arith
@@ -44,14 +38,6 @@ targets_near s stub ops hs lt = All-from_get_or (λ (place : ℕ). place < 2 ^ 3
 pub targets_long : (s : PieceId → ℕ) (stub : ℕ) (ops : List OptOp) → length (targets_from s stub ops) ≡ length ops
 targets_long s stub [] = refl
 targets_long s stub (op ∷ ops) = ap suc (targets_long s (stub + 16 * cond (has_stub op) 1 0) ops)
-
-pub front_rows : (h : Half) → AllHaveRows (loop_front h)
-front_rows Pre = ((omega arith, omega arith, omega (arith, ints)), tt)
-front_rows Body = tt
-
-pub front_few : (h : Half) → length (loop_front h) < 2 ^ 27
-front_few Pre = omega arith
-front_few Body = omega arith
 
 exit_few : (b : Bool) → cond b 1 0 ≤ 1
 exit_few true = omega arith

@@ -24,11 +24,13 @@ use Rattle.guard_exit.specs.Codes.{common_code}
 use Rattle.resume_numbering.specs.Numbered.{IsNumbered}
 use Rattle.bridge_patch.specs.declared.image.PieceHere.{PieceHere}
 use Rattle.bridge_patch.specs.declared.image.Change.{Change}
-use Rattle.bridge_patch.specs.Pieces.{Placed, start_of, spelled, all_bytes, AreLaid, IsChosen, start_in, AllLead, all_rows, loop_front}
+use Rattle.bridge_patch.specs.Pieces.{Placed, start_of, spelled, all_bytes, AreLaid, IsChosen, start_in, AllLead, all_rows, loop_front, label_at}
 
--- What contracts see of an image: the bytes of the code; for each piece in it where it begins, where its first operation stands
--- and its resume table; the rows of exits; the attached bridges, and what each of them changed.
+-- What contracts see of an image: how many registers its boxes may have; the bytes of the code; for each piece in it where it begins,
+-- where its first operation stands, the places of its label and its resume table; the rows of exits; the attached bridges, and what
+-- each of them changed.
 pub record Imaged : Type 0 where
+  pub registers : ℕ
   pub bytes : List ℕ
   pub pieces : List PieceHere
   pub exits : List ExitRow
@@ -40,6 +42,7 @@ pub record IsHere (pl : Placed) (here : PieceHere) : Type 0 where
   pub id : here.id ≡ pl.piece.id
   pub begins : here.at ≡ pl.at
   pub start : here.start ≡ start_of pl
+  pub label : here.label ≡ label_at pl
   pub table : IsNumbered here.table pl.piece
 
 abbrev pub AreHere : List Placed → List PieceHere → Type 0

@@ -2,3 +2,5 @@ pub mod Pieces
 pub mod Image
 pub mod Planning
 pub mod Laid
+pub mod Bridged
+pub mod Attached

@@ -1,6 +1,6 @@
 -- A piece in the code: what stands in front of its first operation, its operations, and behind them the stubs of its exits.
-use Rattle.std.specs.Prelude.{◌≡◌, ◌<◌, ℕ, zero, suc, ◌+◌, ◌-◌, ◌*◌, ◌==◌, if◌then◌else◌, Option, Some, None, List, [], ◌∷◌, ◌++◌, length, map, take}
-use Rattle.std.specs.List.{All, AllZip}
+use Rattle.std.specs.Prelude.{◌≡◌, ◌<◌, ℕ, zero, suc, ◌+◌, ◌*◌, ◌==◌, if◌then◌else◌, Option, Some, None, List, [], ◌∷◌, ◌++◌, length, map, take}
+use Rattle.std.specs.List.{AllZip}
 use Rattle.trace_ops.specs.declared.trace.BoxId.{BoxId}
 use Rattle.trace_ops.specs.declared.trace.Arg.{Arg}
 use Rattle.trace_ops.specs.declared.trace.TraceSet.{TraceSet}
@@ -11,7 +11,6 @@ use Rattle.trace_ops.specs.declared.piece.OptOp.{OptOp}
 use Rattle.trace_ops.specs.declared.piece.OptOp.TheVariants as opt
 use Rattle.trace_ops.specs.declared.piece.Piece.{Piece}
 use Rattle.trace_ops.specs.Parts.{parts_of, boxes_of_arg}
-use Rattle.trace_ops.specs.Pieces.{finished, jump_args}
 use Rattle.opt_meaning.specs.Pieces.{same_piece}
 use Rattle.target_base.specs.declared.place.Place.{Place}
 use Rattle.target_base.specs.declared.place.Place.TheVariants.{Word}
@@ -98,6 +97,10 @@ words_from k (suc n) = Word k ∷ words_from (k + 1) n
 -- the places of a label of so many boxes
 abbrev pub label_places : ℕ → List Place
 label_places n = words_from 16 n
+
+-- where the boxes of a piece's label stand
+abbrev pub label_at : Placed → List Place
+label_at pl = map (λ (b : BoxId). pl.setting.at b.number) pl.piece.label
 
 -- the instructions of a piece's operations do what they do wherever the boxes of its label stand at the label's places
 pub record IsChosen (set : TraceSet) (pl : Placed) : Type 0 where

@@ -1,12 +1,16 @@
 //! The image of a trace set.
 #![tactic(auto)]
 
-ghost use Rattle.std.specs.Prelude.{◌≡◌, ◌≢◌, ◌<◌, ◌^◌, [], length, IfOk, IfSome, IfNone};
+ghost use Rattle.std.specs.Prelude.{◌≡◌, ◌≢◌, ◌<◌, ◌^◌, List as Items, [], length, map, IfOk, IfErr, IfSome, IfNone};
 ghost use Rattle.std.specs.List.{All, Contains};
 ghost use Rattle.opt_meaning.specs.Pieces.{all_pieces, preamble};
 ghost use Rattle.bridge_patch.specs.declared.image.PieceHere.{PieceHere};
+ghost use Rattle.bridge_patch.specs.Pieces.{Placed};
 ghost use Rattle.bridge_patch.specs.Image.{CanCompile, IsImage, entry_in};
+ghost use Rattle.bridge_patch.specs.Bridged.{IsBridge, LacksParent, IsRefused};
+ghost use Rattle.bridge_patch.specs.Attached.{IsImageOf};
 
+use crate::bridged::{Refusal, attachable};
 use crate::flat::add_pieces;
 use crate::laying::{Laid, lay_out_all};
 use code_region::Region;
@@ -14,6 +18,7 @@ use guard_exit::ExitRow;
 use resume_numbering::ResumeTable;
 use std::alloc::{AllocError, Global};
 use std::marker::Model;
+use target_base::Place;
 use trace_ops::{Half, List, OptTrace, PieceId, TraceSet, same_piece_id};
 
 /// What the attachment of a bridge changed: the place and the number of the bytes that were appended, and for each patch
@@ -26,12 +31,14 @@ pub struct Change {
     pub patches: List<(u32, i32, i32)>,
 }
 
-/// A piece in the code: where it begins, where its first operation stands, and what its guards need to go on.
+/// A piece in the code: where what stands in front of it begins, where its first operation stands, the places of its label,
+/// and what its guards need to go on.
 #[derive(Debug, PartialEq, Eq, Hash, Drop)]
 pub struct PieceHere {
     pub id: PieceId,
     pub at: u32,
     pub start: u32,
+    pub label: List<Place>,
     pub table: ResumeTable,
 }
 
@@ -39,6 +46,7 @@ pub struct PieceHere {
 #[derive(Drop)]
 pub struct Image {
     alloc: Global,
+    registers: u8,
     code: Region,
     pieces: Vec<PieceHere>,
     exits: Vec<ExitRow>,
@@ -51,12 +59,13 @@ impl Model for Image {
 
     ghost Value = { Imaged };
 
-    ghost view = { λ m. record { bytes = m.code.bytes; pieces = m.pieces.items; exits = m.exits.items; attached = m.attached.items; changes = m.changes.items } };
+    ghost view = { λ m. record { registers = m.registers; bytes = m.code.bytes; pieces = m.pieces.items; exits = m.exits.items; attached = m.attached.items; changes = m.changes.items } };
 }
 
 // The image of code that is laid out, to which no bridge is attached.
-fn assembled(alloc: Global, laid: Laid) -> Result<Image, AllocError>
+fn assembled(alloc: Global, registers: u8, laid: Laid) -> Result<Image, AllocError>
     requires { length laid.bytes.items < 2 ^ 31 }
+    ensures registers { IfOk result (λ image. image.registers ≡ registers) }
     ensures bytes { IfOk result (λ image. image.bytes ≡ laid.bytes.items) }
     ensures pieces { IfOk result (λ image. image.pieces ≡ laid.pieces.items) }
     ensures exits { IfOk result (λ image. image.exits ≡ laid.exits.items) }
@@ -69,6 +78,7 @@ fn assembled(alloc: Global, laid: Laid) -> Result<Image, AllocError>
     let Laid { exits, pieces, .. } = laid;
     Ok(Image {
         alloc,
+        registers,
         code,
         pieces,
         exits,
@@ -89,6 +99,8 @@ impl Image {
     ) -> Result<Image, AllocError>
         requires { CanCompile set.now loops.now registers }
         ensures image { IfOk result (λ image. IsImage set.now (all_pieces loops.now) image) }
+        ensures placed { IfOk result (λ image. (placed : Items Placed) × (map (λ (pl : Placed). pl.piece) placed ≡ all_pieces loops.now) × IsImageOf set.now placed image) }
+        ensures registers { IfOk result (λ image. image.registers ≡ registers) }
         ensures attached { IfOk result (λ image. image.attached ≡ []) }
         ensures changes { IfOk result (λ image. image.changes ≡ []) }
     {
@@ -97,8 +109,18 @@ impl Image {
             add_pieces(&mut pieces, one.pieces.items())?;
         }
         let laid = lay_out_all(alloc, set, &pieces, registers)?;
-        let image = assembled(alloc, laid)?;
+        let image = assembled(alloc, registers, laid)?;
         Ok(image)
+    }
+
+    /// Whether a bridge of the set may be attached: it isn't attached yet, and its parent is a loop or an attached bridge. The set
+    /// is the one that was compiled.
+    pub fn attachable(&self, set: &TraceSet, bridge: u32) -> Result<(), Refusal>
+        requires { IsBridge set.now bridge }
+        ensures ok { IfOk result (λ u. (¬ Contains self.now.attached bridge) × (¬ LacksParent set.now self.now.attached bridge)) }
+        ensures err { IfErr result (λ e. IsRefused set.now self.now.attached bridge e) }
+    {
+        attachable(&self.attached, set, bridge)
     }
 
     /// The code: the common exit, and behind it the pieces.

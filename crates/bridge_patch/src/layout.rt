@@ -7,7 +7,7 @@ ghost use Rattle.code_layout.specs.Leading.{way};
 ghost use Rattle.code_layout.specs.Emitting.{AllHaveRows, KeysBelow, total_size, emitted, noted, listed};
 ghost use Rattle.asm_select.specs.Laid.{has_stub};
 ghost use Rattle.bridge_patch.specs.Pieces.{exits_in, spelled, stubs_from};
-ghost use Rattle.bridge_patch.specs.Planning.{planned_start, target_of, targets_from, StartsBelow, laid_bytes};
+ghost use Rattle.bridge_patch.specs.Planning.{start_listed, target_of, targets_from, StartsBelow, laid_bytes};
 
 use crate::plan::Plan;
 use asm_select::exits_have_rows;
@@ -39,25 +39,25 @@ pub(crate) fn exits_in(ops: &[OptOp]) -> u32
     count
 }
 
-// Where the first operation of the piece of this name is to stand.
-fn planned_start(plans: &[Plan], id: PieceId) -> u32
-    ensures { result ≡ planned_start plans.now id }
+// Where the first operation of the piece of this name stands, by pairs of names and places.
+fn start_listed(starts: &[(PieceId, u32)], id: PieceId) -> u32
+    ensures { result ≡ start_listed starts.now id }
 {
-    for plan in plans {
-        if id == plan.id {
-            return plan.start;
+    for start in starts {
+        if id == start.0 {
+            return start.1;
         }
     }
     0
 }
 
 // Where the jump of an operation leads, whose stub is at this place if it has one.
-fn target_of(plans: &[Plan], stub: u32, op: &OptOp) -> u32
-    ensures { result ≡ target_of (planned_start plans.now) stub op.now }
+fn target_of(starts: &[(PieceId, u32)], stub: u32, op: &OptOp) -> u32
+    ensures { result ≡ target_of (start_listed starts.now) stub op.now }
 {
     match op {
         OptOp::Plain { .. } => 0,
-        OptOp::Jump { to, .. } => planned_start(plans, *to),
+        OptOp::Jump { to, .. } => start_listed(starts, *to),
         OptOp::Guard { .. } | OptOp::Exit { .. } | OptOp::Finish { .. } => stub,
     }
 }
@@ -65,17 +65,17 @@ fn target_of(plans: &[Plan], stub: u32, op: &OptOp) -> u32
 // Where the jump of each operation leads, the first stub being at this place.
 pub(crate) fn targets(
     alloc: Global,
-    plans: &[Plan],
+    starts: &[(PieceId, u32)],
     stubs: u32,
     ops: &[OptOp],
 ) -> Result<Vec<u32>, AllocError>
     requires { stubs + 16 * exits_in ops.now < 2 ^ 31 }
-    ensures { IfOk result (λ to. to.items ≡ targets_from (planned_start plans.now) stubs ops.now) }
+    ensures { IfOk result (λ to. to.items ≡ targets_from (start_listed starts.now) stubs ops.now) }
 {
     let mut to = Vec::new(alloc);
     let mut stub = stubs;
     for op in ops {
-        to.push(target_of(plans, stub, op))?;
+        to.push(target_of(starts, stub, op))?;
         stub += 16 * exit_count(op);
     }
     Ok(to)

@@ -1,6 +1,7 @@
 //! The image of a trace set: the code of its pieces, with exits, under patches.
 #![tactic(auto)]
 
+mod bridged;
 mod flat;
 mod image;
 mod laying;
@@ -9,4 +10,5 @@ mod plan;
 mod planning;
 mod rows;
 
+pub use bridged::Refusal;
 pub use image::{Change, Image, PieceHere};

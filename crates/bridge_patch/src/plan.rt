@@ -4,10 +4,8 @@
 ghost use Rattle.std.specs.Prelude.{◌≡◌, ℕ, ◌+◌, ◌-◌, ◌*◌, ◌<◌, ◌≤◌, ◌^◌, ◌++◌, ◌∷◌, [], length, All, IfOk, OnOk};
 ghost use Rattle.trace_ops.specs.Pieces.{size_of, defined_by, jump_args};
 ghost use Rattle.linear_scan.specs.Placing.{Allocated};
-ghost use Rattle.asm_select.specs.Selecting.{CanSelect, IsSelected};
-ghost use Rattle.asm_select.specs.Fitting.{IsShort};
 ghost use Rattle.bridge_patch.specs.Pieces.{words_from, label_places, exits_in, loop_front};
-ghost use Rattle.bridge_patch.specs.Planning.{CanPlan, IsPlan, jump_count, count_of, CanPlace, IsFitted};
+ghost use Rattle.bridge_patch.specs.Planning.{CanPlan, IsPlanned, IsLabelled, HasEnds, IsShortFront, jump_count, count_of, CanPlace, IsFitted};
 
 use asm_select::{Selected, chosen_have_rows, select, selected_fits};
 use code_layout::{chosen_jumps, size_of_all, slots_are_emitted};
@@ -17,12 +15,13 @@ use target_base::Place;
 use trace_ops::{Half, List, OptOp, Piece, PieceId, TraceSet};
 use x64_encode::{AluOp, Instr, Reg, spellings_are_short};
 
-// A piece with its places and its instructions; the instructions in front of its first operation; where
-// these, its operations and the stubs of its exits are to begin; and the number of its first exit.
+// A piece with its places and its instructions; the instructions in front of its first operation, and the places of its
+// label; where these, its operations and the stubs of its exits are to begin; and the number of its first exit.
 #[derive(Drop)]
 pub(crate) struct Plan {
     pub(crate) id: PieceId,
     pub(crate) front: List<Instr>,
+    pub(crate) label: List<Place>,
     pub(crate) at: u32,
     pub(crate) start: u32,
     pub(crate) stubs: u32,
@@ -74,71 +73,90 @@ fn loop_front(alloc: Global, half: Half) -> Result<List<Instr>, AllocError>
     Ok(front)
 }
 
-// The places of a piece's boxes, those of its label being frame words.
-fn places_of(alloc: Global, piece: &Piece, registers: u8) -> Result<Places, AllocError>
-    requires { CanPlace piece.now registers }
-    ensures { IfOk result (λ places. Allocated piece.now registers (label_places (length piece.now.label)) places) }
+// What stands before and behind a piece: the instructions in front of its first operation, the places of its label, and
+// those of the label to which it jumps.
+#[derive(Drop)]
+pub(crate) struct Ends {
+    pub(crate) front: List<Instr>,
+    pub(crate) label: List<Place>,
+    pub(crate) to: List<Place>,
+}
+
+// The ends of a piece of a loop: places of labels are frame words.
+pub(crate) fn loop_ends(alloc: Global, piece: &Piece) -> Result<Ends, AllocError>
+    requires label { length piece.now.label < 2 ^ 31 }
+    requires jump { jump_count piece.now.ops < 2 ^ 31 }
+    ensures front { IfOk result (λ ends. ends.front ≡ loop_front piece.now.id.half) }
+    ensures label { IfOk result (λ ends. ends.label ≡ label_places (length piece.now.label)) }
+    ensures to { IfOk result (λ ends. ends.to ≡ label_places (jump_count piece.now.ops)) }
+{
+    let front = loop_front(alloc, piece.id.half)?;
+    let label = label_places(alloc, piece.label.items().len())?;
+    let to = label_places(alloc, jump_count(piece.ops.items()))?;
+    Ok(Ends { front, label, to })
+}
+
+// The places of a piece's boxes, its label's boxes having these.
+fn places_of(
+    alloc: Global,
+    piece: &Piece,
+    registers: u8,
+    label: &[Place],
+) -> Result<Places, AllocError>
+    requires can { CanPlace piece.now registers }
+    requires label { IsLabelled piece.now registers label.now }
+    ensures { IfOk result (λ places. Allocated piece.now registers label.now places) }
 {
     numbered_boxes_are_defined();
-    let label = label_places(alloc, piece.label.items().len())?;
-    allocate(alloc, piece, registers, label.items())
+    allocate(alloc, piece, registers, label)
 }
 
-// The instructions of a piece over these places.
-fn choose(
-    alloc: Global,
-    set: &TraceSet,
-    piece: &Piece,
-    places: &Places,
-) -> Result<Selected, AllocError>
-    requires { CanSelect set.now piece.now places.now (label_places (jump_count piece.now.ops)) }
-    ensures code { IfOk result (λ s. IsSelected set.now piece.now places.now (label_places (jump_count piece.now.ops)) s) }
-    ensures short { IfOk result (λ s. IsShort set.now piece.now s) }
-{
-    let to = label_places(alloc, jump_count(piece.ops.items()))?;
-    select(alloc, set, piece, places, to.items())
-}
-
-// The places and the instructions of a piece.
+// The places and the instructions of a piece between such ends.
 fn fitted(
     alloc: Global,
     set: &TraceSet,
     piece: &Piece,
     registers: u8,
+    ends: &Ends,
 ) -> Result<(Places, Selected), AllocError>
-    requires { CanPlan set.now piece.now registers }
-    ensures { IfOk result (λ r. IsFitted set.now piece.now registers r.0 r.1) }
+    requires can { CanPlan set.now piece.now registers }
+    requires ends { HasEnds piece.now registers ends.now.label ends.now.to }
+    ensures { IfOk result (λ r. IsFitted set.now piece.now ends.now.label ends.now.to registers r.0 r.1) }
 {
     selected_fits();
     chosen_have_rows();
     slots_are_emitted();
     chosen_jumps();
-    let places = places_of(alloc, piece, registers)?;
-    let selected = choose(alloc, set, piece, &places)?;
+    let places = places_of(alloc, piece, registers, ends.label.items())?;
+    let selected = select(alloc, set, piece, &places, ends.to.items())?;
     Ok((places, selected))
 }
 
-// The plan of a piece of a loop, which begins at this place.
+// The plan of a piece between such ends, which begins at this place.
 pub(crate) fn planned(
     alloc: Global,
     set: &TraceSet,
     piece: &Piece,
     registers: u8,
+    ends: Ends,
     at: u32,
     exit: u32,
 ) -> Result<Plan, AllocError>
     requires can { CanPlan set.now piece.now registers }
-    requires room { at + 4 + 32 * size_of piece.now < 2 ^ 31 }
-    ensures { IfOk result (λ plan. IsPlan set.now piece.now at exit plan) }
+    requires ends { HasEnds piece.now registers ends.label ends.to }
+    requires front { IsShortFront ends.front }
+    requires room { at + 64 + 32 * size_of piece.now < 2 ^ 31 }
+    ensures { IfOk result (λ plan. IsPlanned set.now piece.now registers ends.label ends.to ends.front at exit plan) }
 {
     spellings_are_short();
-    let front = loop_front(alloc, piece.id.half)?;
-    let (places, selected) = fitted(alloc, set, piece, registers)?;
+    let (places, selected) = fitted(alloc, set, piece, registers, &ends)?;
+    let Ends { front, label, .. } = ends;
     let start = at + size_of_all(front.items());
     let stubs = start + size_of_all(selected.instrs.items());
     Ok(Plan {
         id: piece.id,
         front,
+        label,
         at,
         start,
         stubs,

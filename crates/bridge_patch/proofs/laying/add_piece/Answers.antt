@@ -1,17 +1,15 @@
-use Rattle.std.proofs.Common.{◌≡◌, ℕ, ◌+◌, ◌*◌, ◌<◌, ◌≤◌, ◌^◌, ◌++◌, ◌∙◌, List, length, subst, ap, sym, arith}
+use Rattle.std.proofs.Common.{◌≡◌, ℕ, ◌+◌, ◌<◌, ◌^◌, ◌++◌, ◌∙◌, List, length, subst, ap, sym, arith}
 use Rattle.std.specs.List.{All}
 use Rattle.trace_ops.specs.declared.piece.OptOp.{OptOp}
-use Rattle.x64_encode.specs.declared.instr.Instr.{Instr}
-use Rattle.code_layout.specs.Emitting.{AllHaveRows, KeysBelow, total_size, noted, listed}
-use Rattle.bridge_patch.specs.Pieces.{exits_in, FirstsBelow, place_among, rows_from}
+use Rattle.code_layout.specs.Emitting.{KeysBelow, total_size, noted, listed}
+use Rattle.bridge_patch.specs.Pieces.{FirstsBelow, place_among, rows_from}
 use Rattle.std.specs.Prelude.{slice_index_or}
 use Rattle.guard_exit.specs.declared.row.ExitRow.{ExitRow}
 use Rattle.asm_select.specs.Given.{where_in}
-use Rattle.bridge_patch.specs.Planning.{planned_start, targets_from}
+use Rattle.bridge_patch.specs.Planning.{start_listed, targets_from}
 use Rattle.bridge_patch.proofs.Plans.{ops_few, instrs_few}
-use Rattle.bridge_patch.proofs.Planned.{front_short}
 use Rattle.bridge_patch.proofs.Displaced.{noted_below}
-use Rattle.bridge_patch.proofs.Targets.{starts_near, targets_near, targets_long, front_rows, front_few, exits_few, rows_same}
+use Rattle.bridge_patch.proofs.Targets.{starts_near, targets_near, targets_long, rows_same}
 use Rattle.bridge_patch.proofs.laying.add_piece.Goals as goal
 
 pub exits_in-exits-requires : goal.exits_in-exits-requires
@@ -21,24 +19,22 @@ exits_in-exits-requires c =
 
 pub lay_out-requires-clause-keys : goal.lay_out-requires-clause-keys
 lay_out-requires-clause-keys c =
-    let s = planned_start c.args.plans.now in
+    let s = start_listed c.args.starts.now in
     let to : length c.deref.result.now ≡ length c.args.piece.now.ops =
     ap length c.deref.ensures.value ∙ ap length (c.in_ok-to.ensures {u = tt}) ∙ targets_long s c.args.plan.now.stubs c.items-ops.result.now ∙ ap length c.items-ops.ensures in
     subst (λ (k : ℕ). KeysBelow k c.args.plan.now.selected.jumps) (sym to) c.requires.ready.keys
 
 pub lay_out-requires-clause-near : goal.lay_out-requires-clause-near
 lay_out-requires-clause-near c =
-    let s = planned_start c.args.plans.now in
+    let s = start_listed c.args.starts.now in
     let ops = c.args.piece.now.ops in
     let e : c.deref.result.now ≡ targets_from s c.args.plan.now.stubs ops = c.deref.ensures.value ∙ c.in_ok-to.ensures {u = tt} ∙ ap (targets_from s c.args.plan.now.stubs) c.items-ops.ensures in
-    let front : total_size c.args.plan.now.front ≤ 4 = subst (λ (f : List Instr). total_size f ≤ 4) (sym c.requires.ready.front) (front_short c.args.piece.now.id.half) in
-    subst (All (λ (place : ℕ). place < 2 ^ 31)) (sym e) (targets_near s c.args.plan.now.stubs ops (λ q. starts_near c.args.plans.now q c.requires.starts) (omega (arith, c.requires.ready.short, c.requires.ready.stubs, c.requires.ready.start, front, c.requires.room)))
+    subst (All (λ (place : ℕ). place < 2 ^ 31)) (sym e) (targets_near s c.args.plan.now.stubs ops (λ q. starts_near c.args.starts.now q c.requires.starts) (omega (arith, c.requires.ready.short, c.requires.ready.stubs, c.requires.ready.start, c.requires.ready.front.short, c.requires.room)))
 
 pub lay_out-requires-clause-short : goal.lay_out-requires-clause-short
 lay_out-requires-clause-short c =
-    let instrs = c.args.plan.now.selected.instrs in
-    let few = front_few c.args.piece.now.id.half in (
-      subst (λ (f : List Instr). length f < 2 ^ 27) (sym c.requires.ready.front) few,
+    let instrs = c.args.plan.now.selected.instrs in (
+      c.requires.ready.front.few,
       omega (arith, instrs_few c.spellings_are_short.ensures.least instrs, c.requires.ready.short, c.requires.ready.small),
     )
 

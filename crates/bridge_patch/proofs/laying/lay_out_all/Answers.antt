@@ -1,14 +1,13 @@
-use Rattle.std.proofs.Common.{◌≡◌, ℕ, ◌+◌, ◌<◌, ◌∙◌, ◌++◌, [], List, length, drop, take, get_or, refl, sym, ap, subst, arith}
+use Rattle.std.proofs.Common.{◌≡◌, ℕ, ◌+◌, ◌∙◌, ◌++◌, List, drop, take, sym, ap, subst, arith}
 use Rattle.std.specs.Prelude.{map}
-use Rattle.std.specs.Borrow.{Bor}
-use Rattle.trace_ops.specs.declared.piece.Piece.{Piece}
-use Rattle.bridge_patch.specs.Planning.{planned_start, targets_from, laid_bytes, StartsBelow, IsHereOf}
+use Rattle.bridge_patch.specs.Planning.{start_listed, starts_of, targets_from, laid_bytes, StartsBelow, IsHereOf}
+use Rattle.trace_ops.specs.declared.piece.PieceId.{PieceId}
 use Rattle.bridge_patch.specs.declared.plan.Plan.{Plan}
 use Rattle.bridge_patch.specs.Pieces.{exits_in}
 use Rattle.code_layout.specs.Emitting.{listed}
 use Rattle.bridge_patch.proofs.Lists.{take_map, take_of, get_same}
 use Rattle.bridge_patch.proofs.Building.{Laws}
-use Rattle.bridge_patch.proofs.LayingAll.{LaysAll, begin, next, lays_more, laid_of, now_of, at_next, finish}
+use Rattle.bridge_patch.proofs.LayingAll.{begin, next, lays_more, laid_of, now_of, at_next, finish}
 use Rattle.bridge_patch.proofs.laying.lay_out_all.Goals as goal
 
 pub loop-k-init : goal.loop-k-init
@@ -37,7 +36,7 @@ add_piece-requires c =
     let n = next c.sound_pieces_can_be_numbered.ensures c.args.set.now c.args.registers ps (map now_of (take k c.args.pieces.now)) (map now_of (drop (k + 1) c.args.pieces.now)) plans (take k plans) (drop (k + 1) plans) c.index-pieces-k.result.now x c.loop-k.draft.from c.loop-k.draft.bytes.items c.loop-k.exits.items c.loop-k.heres.items h in
     record {
       ready = n.ready;
-      starts = subst (λ (l : List Plan). StartsBelow l) (sym c.deref.ensures.value) h.starts;
+      starts = subst StartsBelow (sym (c.deref-in-loop-k.ensures.value ∙ c.in_ok-starts.ensures {u = tt} ∙ ap starts_of c.deref.ensures.value)) h.starts;
       place = n.place;
       room = n.room;
       few = n.few;
@@ -67,7 +66,7 @@ loop-k-preserved c =
     let law : Laws = record { emitted = c.slots_are_emitted.ensures.emitted; noted = c.slots_are_emitted.ensures.noted; sizes = c.slots_are_emitted.ensures.sizes; labels = c.labels_serve.ensures.labels } in
     let other : c.index-in-loop-k.result.now ≡ x = get_same plans k c.index-in-loop-k.result.now x f.0 c.index-in-loop-k.ensures c.index.ensures in
     let w = subst (λ (z : Plan). IsHereOf b.now z y) other (c.in_ok-here_of.ensures {u = tt}) in
-    let bytes = c.in_ok-add_piece.ensures.bytes ∙ ap (λ (l : List Plan). c.loop-k.draft.bytes.items ++ laid_bytes x.at (listed (targets_from (planned_start l) x.stubs b.now.ops)) x (exits_in b.now.ops)) c.deref.ensures.value in
+    let bytes = c.in_ok-add_piece.ensures.bytes ∙ ap (λ (l : List (PieceId × ℕ)). c.loop-k.draft.bytes.items ++ laid_bytes x.at (listed (targets_from (start_listed l) x.stubs b.now.ops)) x (exits_in b.now.ops)) (c.deref-in-loop-k.ensures.value ∙ c.in_ok-starts.ensures {u = tt} ∙ ap starts_of c.deref.ensures.value) in
     lays_more law c.args.set.now c.args.registers ps (map now_of (take k bs)) (map now_of (take (k + 1) bs)) (map now_of (drop (k + 1) bs)) plans (take k plans) (take (k + 1) plans) (drop (k + 1) plans) b.now x y
     c.loop-k.draft.from c.add_piece.new.draft.from c.loop-k.draft.bytes.items c.add_piece.new.draft.bytes.items c.loop-k.exits.items c.add_piece.new.rows.items c.loop-k.heres.items c.push.new.self.items
     h (take_map now_of bs k b c.loop-k-test.true c.index-pieces-k.is) (take_of plans k x f.0 c.index.ensures) (c.in_ok-push.ensures {u = tt}).items c.in_ok-add_piece.ensures.from w bytes c.in_ok-add_piece.ensures.rows

@@ -2,7 +2,6 @@ use Rattle.std.proofs.Common.{drop, take}
 use Rattle.std.specs.Prelude.{map}
 use Rattle.std.specs.Borrow.{Bor}
 use Rattle.trace_ops.specs.declared.piece.Piece.{Piece}
-use Rattle.bridge_patch.specs.Planning.{planned_start}
 use Rattle.bridge_patch.proofs.LayingAll.{LaysAll}
 use Rattle.bridge_patch.proofs.laying.lay_out_all.Given as goal
 

@@ -1,4 +1,4 @@
-use Rattle.std.proofs.Common.{◌≡◌, ℕ, ◌+◌, ◌<◌, [], length, arith}
+use Rattle.std.proofs.Common.{◌≡◌, ◌+◌, [], length, arith}
 use Rattle.code_layout.specs.Emitting.{listed}
 use Rattle.bridge_patch.proofs.Stubs.{stub_added}
 use Rattle.bridge_patch.proofs.layout.add_stubs.Goals as goal

@@ -1,5 +1,3 @@
-use Rattle.std.proofs.Common.{◌≡◌, ◌+◌, ◌-◌, ◌*◌, ◌++◌, length}
-use Rattle.bridge_patch.specs.Pieces.{spelled, stubs_from}
 use Rattle.bridge_patch.proofs.Stubs.{AddsStubs}
 use Rattle.bridge_patch.proofs.layout.add_stubs.Given as goal
 

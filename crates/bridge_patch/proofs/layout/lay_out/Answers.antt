@@ -1,4 +1,4 @@
-use Rattle.std.proofs.Common.{◌≡◌, ℕ, ◌+◌, ◌++◌, [], List, length, arith, ap, ◌∙◌, sym}
+use Rattle.std.proofs.Common.{◌≡◌, ℕ, ◌+◌, ◌++◌, [], List, length, arith, ap, ◌∙◌}
 use Rattle.x64_encode.specs.declared.instr.Instr.{Instr}
 use Rattle.code_layout.specs.Emitting.{emitted, noted, total_size, listed}
 use Rattle.bridge_patch.specs.Pieces.{spelled, stubs_from}

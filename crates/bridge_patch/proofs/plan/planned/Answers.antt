@@ -1,4 +1,4 @@
-use Rattle.std.proofs.Common.{◌≡◌, ◌<◌, ◌≤◌, length, ap, arith}
+use Rattle.std.proofs.Common.{◌≡◌, length, ap, arith}
 use Rattle.bridge_patch.proofs.Plans.{instrs_few}
 use Rattle.bridge_patch.proofs.plan.planned.Goals as goal
 

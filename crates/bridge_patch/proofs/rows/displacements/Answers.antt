@@ -1,4 +1,4 @@
-use Rattle.std.proofs.Common.{◌≡◌, ℕ, ◌+◌, ◌<◌, ◌∙◌, List, length, drop, get_or, subst, arith, rules}
+use Rattle.std.proofs.Common.{ℕ, ◌+◌, ◌<◌, List, length, drop, get_or, subst, arith, rules}
 use Rattle.bridge_patch.proofs.Displaced.{Displaces, displaces_more, first_at, front_at}
 use Rattle.bridge_patch.proofs.rows.displacements.Goals as goal
 

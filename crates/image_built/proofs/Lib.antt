@@ -1,0 +1,17 @@
+mod Rekeying
+mod Leading
+mod Aiming
+mod Choosing
+mod Stubbing
+mod Splitting
+mod Locating
+mod Naming
+mod Rowing
+mod Placing
+mod Reaching
+mod Telling
+mod Imaging
+mod Shortening
+mod Starting
+mod Standing
+mod Alike

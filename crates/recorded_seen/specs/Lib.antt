@@ -1,4 +1,3 @@
-pub mod Names
 pub mod Values
 pub mod Calls
 pub mod Cells

@@ -19,7 +19,7 @@ use Rattle.session_text.specs.declared.session.SessionText.{SessionText}
 use Rattle.recorded_seen.specs.declared.attaching.Judged.{Judged}
 use Rattle.recorded_seen.specs.declared.attaching.Judged.TheVariants.{Accepted, Already, NoParent}
 use Rattle.descr_table.specs.Names.{or_nothing}
-use Rattle.recorded_seen.specs.Names.{trace_name}
+use Rattle.trace_text.specs.PieceWriting.{trace_name}
 use Rattle.recorded_seen.specs.States.{seen_text}
 
 -- ---- attachments

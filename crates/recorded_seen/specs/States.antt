@@ -17,7 +17,7 @@ use Rattle.heap_shape.specs.declared.cell.Ref.{Ref}
 use Rattle.heap_shape.specs.declared.cell.Cell.{Cell}
 use Rattle.heap_shape.specs.Roots.{roots}
 use Rattle.heap_shape.specs.Listing.{listing}
-use Rattle.recorded_seen.specs.Names.{trace_name}
+use Rattle.trace_text.specs.PieceWriting.{trace_name}
 use Rattle.recorded_seen.specs.Values.{value_text, values_text, count_text}
 use Rattle.recorded_seen.specs.Calls.{behind_calls, calls_text}
 use Rattle.recorded_seen.specs.Cells.{cells_text}

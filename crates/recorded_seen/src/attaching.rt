@@ -3,9 +3,9 @@ ghost use Rattle.std.specs.Prelude.{◌≡◌, ◌++◌, slice_get, OnOk};
 ghost use Rattle.trace_ops.specs.Weights.{place_of};
 ghost use Rattle.recorded_seen.specs.Sessions.{is_attached, is_there, place_is_there, parent_is_there, can_hang, judged, judged_text, with_judged, attach_text};
 
-use crate::names::trace_name;
 use std::alloc::AllocError;
 use trace_ops::{Origin, Text, Trace, TraceSet};
+use trace_text::trace_name;
 
 /// What becomes of an attachment.
 #[derive(Clone, Copy, Debug, PartialEq, Eq)]

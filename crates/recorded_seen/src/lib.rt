@@ -6,7 +6,6 @@ mod calls;
 mod cells;
 mod laws;
 mod listed;
-mod names;
 mod observed;
 mod puts;
 mod sessions;

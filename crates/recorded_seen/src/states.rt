@@ -3,13 +3,13 @@ ghost use Rattle.std.specs.Prelude.{◌≡◌, ◌++◌, length, OnOk};
 ghost use Rattle.recorded_seen.specs.States.{last_text, guard_text, frame_line, frame_lines, exit_text, finish_text, misfit_text, state_text};
 
 use crate::listed::parted;
-use crate::names::trace_name;
 use crate::puts::put_number;
 use crate::values::{put_value, put_values};
 use heap_shape::Ref;
 use std::alloc::AllocError;
 use trace_meaning::{RecFrame, RecState};
 use trace_ops::TraceSet;
+use trace_text::trace_name;
 
 fn put_last(out: &mut Vec<u8>, refs: &[Ref]) -> Result<(), AllocError>
     ensures { OnOk result (out.new.items ≡ out.old.items ++ last_text refs.now) }

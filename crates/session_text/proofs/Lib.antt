@@ -12,3 +12,5 @@ pub mod ReadStart
 pub mod ReadAnswers
 pub mod ReadLine
 pub mod LineByLine
+pub mod Turning
+pub mod AttachLines

@@ -6,3 +6,4 @@ pub mod Form
 pub mod Reading
 pub mod Fits
 pub mod Spelling
+pub mod Attaching

@@ -1,6 +1,7 @@
 //! The lines of a session, as text and as a list.
 #![tactic(auto)]
 
+mod attaching;
 mod fault;
 mod form;
 mod laws;
@@ -10,6 +11,7 @@ mod session;
 mod start;
 mod words;
 
+pub use attaching::session_of_all;
 pub use fault::{Reason, SessionFault};
 pub use laws::{name_laws, session_laws};
 pub use reading::{read_session, session_of};

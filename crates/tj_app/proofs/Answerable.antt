@@ -90,7 +90,8 @@ untold_right refuses c input set s f built (inr (inr bad)) = built_right c input
 pub answered : Refuses → (c : Command) (input : List ℕ) (f : Fault) → IsAnswerable c input → IsRefusedBy c input f → f ≡ fault.Memory
 answered refuses Check input f (set, s, told) (inl bad) = bad_right refuses input set f told.stands told.checked bad
 answered refuses Check input f (set, s, told) (inr bad) = session_right input set s f told bad
-answered refuses (Opt n) input f (set, s, built) h = untold_right refuses (Opt n) input set s f built h
+answered refuses (Opt n) input f (set, s, told) (inl bad) = bad_right refuses input set f told.stands told.checked bad
+answered refuses (Opt n) input f (set, s, told) (inr bad) = session_right input set s f told bad
 answered refuses (Image n) input f (set, s, built) h = untold_right refuses (Image n) input set s f built h
 answered refuses (Run a n) input f (set, s, built) h = untold_right refuses (Run a n) input set s f built h
 answered refuses (Gen n k) input f (set, s, built) h = untold_right refuses (Gen n k) input set s f built h

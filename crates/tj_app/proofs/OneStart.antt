@@ -101,15 +101,3 @@ one_start set s straight fits h =
       only = lines.only;
       short = omega (arith, fits.few_lines, ap length lines.same);
     }
-
--- a session without lines
-pub nothing_fits : (set : TraceSet) → FitsSet set (record { lines = []; names = [] })
-unfolding starts_behind LinesFit
-nothing_fits set = record {
-  lines = tt;
-  names = refl;
-  are_names = tt;
-  short_names = tt;
-  few_lines = omega arith;
-  few_starts = omega arith;
-}

@@ -213,7 +213,7 @@ pub record NeedsNothing (set : TraceSet) (s : SessionText) : Type 0 where
 pub nothing_needed : (c : Command) (set : TraceSet) (s : SessionText) → first_need c set s ≡ None → NeedsNothing set s
 nothing_needed c set s h =
     let all = find_none (needs c set s) order h in
-    let from_guard = all.1.1.1 in
+    let from_guard = all.1.1 in
     let from_call = from_guard.1.1 in
     let from_bridge = from_call.1.1 in
     let from_step = from_bridge.1.1 in

@@ -49,10 +49,10 @@ ran behave are_whole command input text set session built ready h = record {
   whole = (are_whole set h.image ready.straight ready.few h.compiled).0;
 }
 
--- what a command other than `check` answers
-pub other_text : (command : Command) (input : List ℕ) (answer : Result (Vec ℕ Global) Fault) → (command ≡ Check → ⊥) → MatchResult answer (λ text. Ran command input text.items) (IsUntold command input) → MatchResult answer (λ text. IsTextFor command input text.items) (IsRefusedBy command input)
-other_text Check input answer other h = absurd (other refl)
-other_text (Opt n) input answer other h = h
-other_text (Image n) input answer other h = h
-other_text (Run a n) input answer other h = h
-other_text (Gen n k) input answer other h = h
+-- what a command other than `check` and `opt` answers
+pub other_text : (command : Command) (input : List ℕ) (answer : Result (Vec ℕ Global) Fault) → (command ≡ Check → ⊥) → ((n : ℕ) → command ≡ Opt n → ⊥) → MatchResult answer (λ text. Ran command input text.items) (IsUntold command input) → MatchResult answer (λ text. IsTextFor command input text.items) (IsRefusedBy command input)
+other_text Check input answer check opt h = absurd (check refl)
+other_text (Opt n) input answer check opt h = absurd (opt n refl)
+other_text (Image n) input answer check opt h = h
+other_text (Run a n) input answer check opt h = h
+other_text (Gen n k) input answer check opt h = h

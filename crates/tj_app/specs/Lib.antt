@@ -7,4 +7,5 @@ pub mod Checking
 pub mod Counting
 pub mod Unbuilt
 pub mod Telling
+pub mod Opting
 pub mod Top

@@ -1,5 +1,5 @@
 -- What an input tells: a set of traces, and the lines of its session.
-use Rattle.std.specs.Prelude.{◌≡◌, ◌⊎◌, ℕ, Option, Some, None, Result, Ok, List, []}
+use Rattle.std.specs.Prelude.{◌≡◌, ◌⊎◌, ℕ, Option, Some, None, Result, Ok, List}
 use Rattle.trace_ops.specs.declared.trace.TraceSet.{TraceSet}
 use Rattle.trace_text.specs.Sections.{session_part}
 use Rattle.trace_check.specs.Faults.{IsChecked}
@@ -9,6 +9,7 @@ use Rattle.session_text.specs.declared.fault.SessionFault.{SessionFault}
 use Rattle.session_text.specs.declared.fault.SessionFault.TheVariants as session
 use Rattle.session_text.specs.Faults.{Fails}
 use Rattle.session_text.specs.Reading.{session_at}
+use Rattle.session_text.specs.Attaching.{session_of_all}
 use Rattle.tj_app.specs.declared.refusal.Fault.{Fault}
 use Rattle.tj_app.specs.declared.refusal.Fault.TheVariants as fault
 use Rattle.tj_app.specs.declared.unbuilt.Unbuilt.{Unbuilt}
@@ -16,9 +17,9 @@ use Rattle.tj_app.specs.declared.words.Command.{Command}
 use Rattle.tj_app.specs.Checking.{StandsFor, IsBad}
 use Rattle.tj_app.specs.Unbuilt.{first_need, name_of}
 
--- the lines of a session over a set; while no bridge is built, an input without them has none
+-- the lines of a session over a set; an input without them has the session that attaches every bridge
 abbrev pub session_in : TraceSet → Option (List ℕ × ℕ) → Result SessionText SessionFault
-session_in set None = Ok (record { lines = []; names = [] })
+session_in set None = Ok (session_of_all set)
 session_in set (Some (text, first)) = session_at set first text
 
 -- The input stands for a set that is well formed and not too heavy, and for the lines of a session over it.

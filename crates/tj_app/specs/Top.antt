@@ -22,6 +22,7 @@ use Rattle.tj_app.specs.declared.words.Command.{Command}
 use Rattle.tj_app.specs.declared.words.Command.TheVariants.{Check, Opt, Image as ImageOf, Run, Gen}
 use Rattle.tj_app.specs.Asking.{Asks}
 use Rattle.tj_app.specs.Counting.{IsCounted}
+use Rattle.tj_app.specs.Opting.{IsOptText}
 use Rattle.tj_app.specs.Telling.{Tells, IsBuilt, IsUnread, IsUntold}
 use Rattle.tj_app.specs.Refusing.{status_of, fault_text}
 use Rattle.tj_app.specs.Session.{IsSeen}
@@ -50,6 +51,7 @@ pub record Ran (command : Command) (input text : List ℕ) : Type 0 where
 -- the text that a command writes for an input
 abbrev pub IsTextFor : Command → List ℕ → List ℕ → Type 0
 IsTextFor Check input text = IsCounted input text
+IsTextFor (Opt n) input text = IsOptText input text
 IsTextFor command input text = Ran command input text
 
 -- all of the source was read: it gave this input, of at most 16 MiB
@@ -80,11 +82,13 @@ pub record Done (words : List (List ℕ)) (left left' taken taken' : Option (Lis
 -- what stands behind a refusal of an input by a command
 abbrev pub IsRefusedBy : Command → List ℕ → Fault → Type 0
 IsRefusedBy Check input f = IsUnread input f
+IsRefusedBy (Opt n) input f = IsUnread input f
 IsRefusedBy command input f = IsUntold command input f
 
 -- the input is right, and nothing that isn't built is needed for it
 abbrev pub IsAnswerable : Command → List ℕ → Type 0
 IsAnswerable Check input = (set : TraceSet) × (session : SessionText) × Tells input set session
+IsAnswerable (Opt n) input = (set : TraceSet) × (session : SessionText) × Tells input set session
 IsAnswerable command input = (set : TraceSet) × (session : SessionText) × IsBuilt command input set session
 
 -- the command refuses its input

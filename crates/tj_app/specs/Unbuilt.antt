@@ -31,7 +31,6 @@ use Rattle.tj_app.specs.declared.unbuilt.Unbuilt.{Unbuilt}
 use Rattle.tj_app.specs.declared.unbuilt.Unbuilt.TheVariants as un
 
 abbrev pub name_of : Unbuilt → List ℕ
-name_of un.Opt = codes "opt"
 name_of un.Image = codes "image"
 name_of un.Gen = codes "gen"
 name_of un.Guard = codes "guard"
@@ -117,7 +116,6 @@ set_needs set what = table_needs what set.table || list_any (trace_needs what) s
 -- ---- commands and sessions
 
 abbrev pub command_needs : Command → Unbuilt → Bool
-command_needs (command.Opt n) un.Opt = true
 command_needs (command.Image n) un.Image = true
 command_needs (command.Gen n k) un.Gen = true
 command_needs _ _ = false
@@ -143,7 +141,7 @@ needs c set s what = command_needs c what || (set_needs set what || session_need
 
 -- the order in which it is looked for
 abbrev pub order : List Unbuilt
-order = un.Opt ∷ un.Image ∷ un.Gen ∷ un.Guard ∷ un.Reference ∷ un.Call ∷ un.Jump ∷ un.Bridge ∷ un.Activations ∷ un.Step ∷ un.Attach ∷ []
+order = un.Image ∷ un.Gen ∷ un.Guard ∷ un.Reference ∷ un.Call ∷ un.Jump ∷ un.Bridge ∷ un.Activations ∷ un.Step ∷ un.Attach ∷ []
 
 abbrev pub first_need : Command → TraceSet → SessionText → Option Unbuilt
 first_need c set s = find (needs c set s) order

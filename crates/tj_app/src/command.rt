@@ -9,6 +9,7 @@ ghost use Rattle.tj_app.specs.Top.{Done, Answers, Causes, IsTextFor, IsRefusedBy
 
 use crate::counting::counts;
 use crate::ending::Status;
+use crate::opting::opt_text;
 use crate::refusal::{Fault, fault_line};
 use crate::running::run_text;
 use crate::words::{Command, command_of};
@@ -20,10 +21,10 @@ const LIMIT: usize = 16_777_216;
 
 /// Does what the words ask for. `check` reads an input from the source, and writes the counts of the set of traces that
 /// it stands for to the sink; its session's lines are read as those of `run` are. `run` writes an image of the set's
-/// loops and what was seen of the session over it. Of the other forms `opt`, `image` and `gen` aren't built. A refused
-/// input has one line, which is all that is written. First the words are judged, then the source's reads and the
-/// input's length, then its lines, whether the set is well formed, its weight, the session's lines, and at last what
-/// isn't built.
+/// loops and what was seen of the session over it, `opt` the optimised pieces of the loops and of the bridges that the
+/// session attaches. Of the other forms `image` and `gen` aren't built. A refused input has one line, which is all that
+/// is written. First the words are judged, then the source's reads and the input's length, then its lines, whether the
+/// set is well formed, its weight, the session's lines, and at last what isn't built.
 pub fn serve<S: Source, K: Sink>(
     alloc: Global,
     words: &[String],
@@ -114,6 +115,7 @@ fn text_for(alloc: Global, command: Command, bytes: &[u8]) -> Result<Vec<u8>, Fa
 {
     match command {
         Command::Check => counts(alloc, bytes),
+        Command::Opt { registers: _ } => opt_text(alloc, bytes),
         _ => run_text(alloc, command, bytes),
     }
 }

@@ -7,6 +7,7 @@ mod counting;
 mod ending;
 mod image_text;
 mod laws;
+mod opting;
 mod puts;
 mod refusal;
 mod running;

@@ -1,5 +1,5 @@
 //! What an input tells: a checked set of traces, and the lines of its session.
-ghost use Rattle.std.specs.Prelude.{◌≡◌, ◌≤◌, [], Ok, length, MatchResult, IfOk};
+ghost use Rattle.std.specs.Prelude.{◌≡◌, ◌≤◌, None, Ok, length, MatchResult, IfOk};
 ghost use Rattle.trace_ops.specs.InRange.{IsInRange};
 ghost use Rattle.trace_text.specs.Sections.{session_part};
 ghost use Rattle.session_text.specs.Fits.{FitsSet};
@@ -9,11 +9,11 @@ use crate::checking::checked_set;
 use crate::refusal::Fault;
 use crate::unbuilt::first_need;
 use crate::words::Command;
-use session_text::{SessionFault, SessionText, session_of};
+use session_text::{SessionFault, SessionText, session_of, session_of_all};
 use std::alloc::Global;
 use text_lines::lines_are_few;
 use trace_check::Checked;
-use trace_ops::{List, TraceSet};
+use trace_ops::TraceSet;
 use trace_text::session_part;
 
 /// A well-formed set, and a session over it.
@@ -54,7 +54,7 @@ fn session_over(alloc: Global, bytes: &[u8], set: &TraceSet) -> Result<SessionTe
 {
     lines_are_few();
     let Some((text, first_line)) = session_part(bytes) else {
-        return Ok(no_session(alloc));
+        return whole_session(alloc, set);
     };
     match session_of(alloc, text, first_line, set) {
         Ok(session) => Ok(session),
@@ -62,12 +62,15 @@ fn session_over(alloc: Global, bytes: &[u8], set: &TraceSet) -> Result<SessionTe
     }
 }
 
-fn no_session(alloc: Global) -> SessionText
-    ensures { result ≡ record { lines = []; names = [] } }
+// The session of an input that has none.
+fn whole_session(alloc: Global, set: &TraceSet) -> Result<SessionText, Fault>
+    requires { IsInRange set.now }
+    ensures told { MatchResult result (λ session. session_in set.now None ≡ Ok session) (IsRefusedSession set.now None) }
+    ensures fits { IfOk result (FitsSet set.now) }
 {
-    SessionText {
-        lines: List::of(Vec::new(alloc)),
-        names: List::of(Vec::new(alloc)),
+    match session_of_all(alloc, set) {
+        Ok(session) => Ok(session),
+        Err(_) => Err(Fault::Memory),
     }
 }
 

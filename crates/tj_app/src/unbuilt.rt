@@ -16,7 +16,6 @@ use trace_ops::{
 /// has not one start.
 #[derive(Clone, Copy, Debug, PartialEq, Eq)]
 pub enum Unbuilt {
-    Opt,
     Image,
     Gen,
     Guard,
@@ -42,7 +41,6 @@ impl Unbuilt {
         ensures short { length result.now ≤ 64 }
     {
         match self {
-            Unbuilt::Opt => b"opt",
             Unbuilt::Image => b"image",
             Unbuilt::Gen => b"gen",
             Unbuilt::Guard => b"guard",
@@ -62,7 +60,6 @@ pub fn first_need(command: Command, set: &TraceSet, session: &SessionText) -> Op
     ensures { result ≡ first_need command set.now session.now }
 {
     let order = [
-        Unbuilt::Opt,
         Unbuilt::Image,
         Unbuilt::Gen,
         Unbuilt::Guard,
@@ -103,7 +100,6 @@ fn command_needs(command: Command, what: Unbuilt) -> bool
     ensures { result ≡ command_needs command what }
 {
     match (command, what) {
-        (Command::Opt { registers: _ }, Unbuilt::Opt) => true,
         (Command::Image { registers: _ }, Unbuilt::Image) => true,
         (Command::Gen { number: _, size: _ }, Unbuilt::Gen) => true,
         _ => false,

@@ -20,7 +20,7 @@ mod writing;
 
 pub use fault::{Refusal, TextFault};
 pub use laws::{line_laws, opening_laws, text_laws};
-pub use piece_writing::write_opt;
+pub use piece_writing::{trace_name, write_opt};
 pub use session::session_part;
 pub use set::read_set;
 pub use writing::write_set;

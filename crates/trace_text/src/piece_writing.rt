@@ -22,7 +22,8 @@ fn put_virtual(out: &mut Vec<u8>, number: usize) -> Result<(), AllocError>
     out.extend_from_slice(digits.as_bytes())
 }
 
-fn trace_name(set: &TraceSet, k: u32) -> &[u8]
+/// The name of a trace by its place; nothing for what isn't there.
+pub fn trace_name(set: &TraceSet, k: u32) -> &[u8]
     ensures { result.now ≡ trace_name set.now k }
 {
     match set.traces.items().get(k as usize) {

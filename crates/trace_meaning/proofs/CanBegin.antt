@@ -31,7 +31,7 @@ use Rattle.trace_meaning.specs.Keeping.{AreOfKind, KeepsKinds}
 use Rattle.trace_meaning.proofs.Bridges.{seen-is_bridge}
 use Rattle.trace_meaning.specs.Kinds.{AreOfKinds}
 use Rattle.trace_meaning.proofs.OfKind.{BoxesHold-bound_to, AreOfKinds-there}
-use Rattle.trace_meaning.proofs.Holding.{Holds}
+use Rattle.trace_meaning.specs.Holding.{Holds}
 use Rattle.trace_meaning.proofs.HoldingSteps.{LeaveHolds, TurnHolds, TurnHolds-recorded_step}
 use Rattle.trace_meaning.proofs.HoldingRuns.{IsInside, known_behind, begins_known, guards_in, guard_there, not_empty, bridge_receives, jump_fits, there, lawful, is_last, goes_on}
 use Rattle.trace_meaning.proofs.WordSteps.{TurnHasWords, bind_all-words, no-boxes, step_words, fields-few}

@@ -24,17 +24,8 @@ use Rattle.trace_meaning.specs.Values.{zero_of}
 use Rattle.trace_meaning.specs.World.{World}
 use Rattle.trace_meaning.specs.Objects.{fields_of, zero_field, zero_item, zeroed, cleared, place_of, index_of, part_of_object, read, write, write_unfrozen, is_frozen, written, within, with_part, with_object, with_new, place_within}
 use Rattle.trace_meaning.specs.Kinds.{IsValueOf, kind_of_part, PartsHold, ObjectsHold}
+use Rattle.trace_meaning.specs.Holding.{Holds, Keeps, KeepsIf, IsGiven}
 use Rattle.trace_meaning.proofs.OfKind.{IsValueOf-more}
-
--- a world whose objects begin with those of the table, and hold values of their kinds
-pub record Holds (t : Table) (w : World) : Type 0 where
-  pub prebuilts : length t.prebuilts ≤ length w.objects
-  pub objects : ObjectsHold t w.objects
-
--- it comes from another one, and has no fewer objects
-pub record Keeps (t : Table) (before after : World) : Type 0 where
-  pub holds : Holds t after
-  pub more : length before.objects ≤ length after.objects
 
 pub keeps-same : (t : Table) (w u : World) → u.objects ≡ w.objects → Holds t w → Keeps t w u
 keeps-same t w u e h =
@@ -48,16 +39,6 @@ keeps-twice t a b c g h =
     let first : length a.objects ≤ length b.objects = g.more in
     let second : length b.objects ≤ length c.objects = h.more in
     record { holds = h.holds; more = omega arith }
-
-abbrev pub KeepsIf : Table → World → Option World → Type 0
-KeepsIf t w None = Unit {0}
-KeepsIf t w (Some u) = Keeps t w u
-
--- what is given, if anything is, is of the kind that is wanted, if one is
-abbrev pub IsGiven : ℕ → Option Kind → Option Value → Type 0
-IsGiven n None x = Unit {0}
-IsGiven n (Some k) None = Unit {0}
-IsGiven n (Some k) (Some x) = IsValueOf n k x
 
 pub PartsHold-more : (t : Table) (m n : ℕ) (o : Object) → m ≤ n → PartsHold t m o → PartsHold t n o
 PartsHold-more t m n o le h = λ i k x ek ex. IsValueOf-more m n k x le (h i k x ek ex)

@@ -26,14 +26,8 @@ use Rattle.trace_meaning.specs.Performing.{Done, Gave, Bad, Waited, Misfitted, e
 use Rattle.trace_meaning.specs.Kinds.{IsValueOf}
 use Rattle.trace_meaning.specs.Kinds.{AreOfKinds}
 use Rattle.trace_meaning.proofs.OfKind.{IsValueOf-more}
-use Rattle.trace_meaning.proofs.Holding.{Holds, Keeps, KeepsIf, keeps-same, keeps-twice, IsGiven, KeepsIf-write, Keeps-with_new, new_is_there, PartsHold-zeroed}
-
--- what an operation leaves holds values of their kinds, and what it gives is of the kind that is wanted
-abbrev pub DoneHolds : Table → World → Option Kind → Done → Type 0
-DoneHolds t w want (Gave x u) = Keeps t w u × IsGiven (length u.objects) want x
-DoneHolds t w want Bad = Unit {0}
-DoneHolds t w want (Waited u) = Keeps t w u
-DoneHolds t w want (Misfitted u) = Keeps t w u
+use Rattle.trace_meaning.specs.Holding.{Holds, Keeps, KeepsIf, IsGiven, DoneHolds}
+use Rattle.trace_meaning.proofs.Holding.{keeps-same, keeps-twice, KeepsIf-write, Keeps-with_new, new_is_there, PartsHold-zeroed}
 
 -- References among values
 

@@ -28,8 +28,9 @@ use Rattle.trace_meaning.specs.Folding.{one_reference, compared, fold_words, fol
 use Rattle.trace_meaning.specs.Performing.{value_done, write_done, overflowing, get_field, set_field, get_item, set_item, get_length, made, make_structure, make_items, make_array, function_in, call, perform}
 use Rattle.trace_meaning.specs.Kinds.{IsValueOf, PartsHold}
 use Rattle.trace_meaning.specs.Kinds.{AreOfKinds}
-use Rattle.trace_meaning.proofs.Holding.{Holds, KeepsIf, keeps-same, IsGiven, IsGiven-read, KeepsIf-write, Keeps-with_new, new_is_there, PartsHold-zeroed, PartsHold-cleared}
-use Rattle.trace_meaning.proofs.HoldingAnswers.{DoneHolds, DoneHolds-call_function}
+use Rattle.trace_meaning.specs.Holding.{Holds, KeepsIf, IsGiven, DoneHolds}
+use Rattle.trace_meaning.proofs.Holding.{keeps-same, IsGiven-read, KeepsIf-write, Keeps-with_new, new_is_there, PartsHold-zeroed, PartsHold-cleared}
+use Rattle.trace_meaning.proofs.HoldingAnswers.{DoneHolds-call_function}
 
 module _ (t : Table) (w : World) (h : Holds t w) where
   abbrev n : ℕ

@@ -37,7 +37,7 @@ use Rattle.trace_meaning.specs.Kinds.{BoxesHold, ObjectsHold, RunHolds, LeftRigh
 use Rattle.trace_meaning.proofs.Bridges.{seen-is_bridge}
 use Rattle.trace_meaning.specs.Kinds.{AreOfKinds}
 use Rattle.trace_meaning.proofs.OfKind.{BoxesHold-bound_to, AreOfKinds-there, AreOfKinds-slots}
-use Rattle.trace_meaning.proofs.Holding.{Holds}
+use Rattle.trace_meaning.specs.Holding.{Holds}
 use Rattle.trace_meaning.proofs.HoldingSteps.{IsLawful, one_if, GoesOn, FailsIn, JumpsOut, LeaveHolds, TurnHolds, slots_named, TurnHolds-recorded_step}
 use Rattle.lists.proofs.Alls.{all_at}
 use Rattle.trace_meaning.specs.Boxes.{BoxesDecide, HasValue, bound_to}

@@ -30,7 +30,7 @@ use Rattle.trace_meaning.specs.Recorded.{initial_value, prebuilt_object, first_w
 use Rattle.trace_meaning.specs.Starting.{IsPrebuiltOrNone}
 use Rattle.trace_meaning.specs.Kinds.{IsValueOf, kind_of_part, PartsHold}
 use Rattle.trace_meaning.specs.Kinds.{AreOfKinds}
-use Rattle.trace_meaning.proofs.Holding.{Holds}
+use Rattle.trace_meaning.specs.Holding.{Holds}
 
 -- Inputs
 

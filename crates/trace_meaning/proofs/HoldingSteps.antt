@@ -29,8 +29,7 @@ use Rattle.trace_meaning.specs.Kinds.{IsValueOf, BoxesHold, IsThere}
 use Rattle.trace_meaning.specs.Kinds.{AreOfKinds}
 use Rattle.trace_meaning.proofs.Valued.{own_value, all_kept}
 use Rattle.trace_meaning.proofs.OfKind.{BoxesHold-more, BoxesHold-bind, AreOfKinds-there, AreOfKinds-all_values}
-use Rattle.trace_meaning.proofs.Holding.{Holds, IsGiven}
-use Rattle.trace_meaning.proofs.HoldingAnswers.{DoneHolds}
+use Rattle.trace_meaning.specs.Holding.{Holds, IsGiven, DoneHolds}
 use Rattle.trace_meaning.proofs.HoldingOperations.{DoneHolds-perform}
 
 -- the rules that an operation of a set keeps

@@ -15,6 +15,7 @@ pub mod Steps
 pub mod Standing
 pub mod Starting
 pub mod Kinds
+pub mod Holding
 pub mod Routes
 pub mod Laws
 pub mod Growing

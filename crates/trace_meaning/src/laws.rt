@@ -8,6 +8,7 @@ ghost use Rattle.trace_meaning.specs.Sound.{LawfulLegsCanBegin};
 ghost use Rattle.trace_meaning.specs.Worded.{RunsKeepWords, WordLaws};
 ghost use Rattle.trace_meaning.specs.Keeping.{LawfulLegsKeepKinds};
 ghost use Rattle.trace_meaning.specs.Kinds.{BoxesKeepKinds, PartsKeepKinds, EndsKeepKinds};
+ghost use Rattle.trace_meaning.specs.Holding.{OperationsKeepKinds};
 ghost use Rattle.trace_meaning.specs.There.{WhatIsNamedIsThere};
 ghost use Rattle.trace_meaning.specs.Undefined.{OnlyUndefinedGoWrong, RunsMakeProgress};
 ghost use Rattle.trace_meaning.specs.Laws.{CallsAreKept, ObjectsAreKept, NoFewerObjects, PrebuiltsStayFirst, AnswersAreCounted, LegsAreRuns, WellFormedLegsAreRuns, LegsAreShort, RecordedRuns, StartsCanBegin, SeenIsBridge, SeesWhereThereIsOne};
@@ -76,6 +77,12 @@ pub fn boxes_keep_kinds()
 {
     equality_decides();
 }
+
+/// An operation whose arguments are as it takes them, and of their kinds, leaves objects that hold values of their kinds, no
+/// fewer of them, and gives a value of its kind.
+pub fn operations_keep_kinds()
+    ensures { OperationsKeepKinds }
+{}
 
 /// In each such run, an object has the parts of its size; and what parts and calls name is there.
 pub fn what_is_named_is_there()

@@ -2,7 +2,7 @@
 use Rattle.std.proofs.Common.{◌≡◌, ℕ, zero, suc, ◌+◌, ◌*◌, ◌<◌, ◌^◌, Bool, true, false, cond, List, [], ◌∷◌, ◌++◌, length, Option, Some, None, refl, sym, ap, ◌∙◌, subst, arith, length-append, append_assoc, inl}
 use Rattle.std.proofs.lemmas.List.{length-map}
 use Rattle.std.specs.Prelude.{slice_get, map, ◌-◌}
-use Rattle.std.specs.List.{AllByRecursion, All}
+use Rattle.std.specs.List.{AllByRecursion, All, Contains}
 use Rattle.std.specs.Option.{IsSomeAnd, option_map}
 use Rattle.std.proofs.lemmas.List.Elements.{All-head, All-tail}
 use Rattle.trace_ops.specs.declared.trace.Arg.{Arg}
@@ -28,7 +28,7 @@ use Rattle.bridge_patch.specs.Planning.{AllTargets, count_of, jump_count, target
 use Rattle.bridge_patch.specs.Laid.{IsLaid}
 use Rattle.bridge_patch.specs.declared.laying.Laid.{Laid}
 use Rattle.bridge_patch.specs.Bridged.{IsBridge, leaves, is_bridging}
-use Rattle.bridge_patch.specs.Attached.{IsImageOf, IsStanding, words_for, LeadsNow, AllLeadNow, places_in, IsKnown, bytes_unless, room_left}
+use Rattle.bridge_patch.specs.Attached.{IsImageOf, IsStanding, words_for, LeadsNow, AllLeadNow, JumpsAmong, places_in, IsKnown, bytes_unless, room_left}
 use Rattle.bridge_patch.proofs.Compiling.{room_used}
 
 -- ---- jumps
@@ -56,7 +56,7 @@ pub in_middle : (P : OptOp → Type 0) (done rest : List OptOp) (op : OptOp) →
 in_middle P [] rest op h = All-head P op rest h
 in_middle P (d ∷ done) rest op h = in_middle P done rest op (All-tail P d (done ++ op ∷ rest) h)
 
-get_at : (done rest : List OptOp) (op : OptOp) → slice_get (done ++ op ∷ rest) (length done) ≡ Some op
+pub get_at : (done rest : List OptOp) (op : OptOp) → slice_get (done ++ op ∷ rest) (length done) ≡ Some op
 get_at [] rest op = refl
 get_at (d ∷ done) rest op = get_at done rest op
 
@@ -150,12 +150,21 @@ placed_image set registers loops laid image h can r b p e a =
       laid = subst (λ (n : ℕ). AreLaid (length (spelled common_code)) 0 h.placed n h.last) (sym long) h.follow;
       standing = subst (λ (n : ℕ). AllByRecursion (IsStanding set n (words_for set image.attached)) h.placed) (sym r) (subst (λ (bs : List ℕ). AllByRecursion (IsStanding set registers (words_for set bs)) h.placed) (sym a) h.standing);
       leads = subst (λ (bs : List ℕ). AllByRecursion (AllLeadNow set.traces bs h.placed) h.placed) (sym a) leads;
+      closed = jumps_sound (label_in (map (λ (pl : Placed). pl.piece) h.placed)) h.placed sound;
       exits = e ∙ h.rows;
       heres = subst (AreHere h.placed) (sym p) h.heres;
       known = subst (λ (bs : List ℕ). AllByRecursion (λ (pl : Placed). IsKnown set bs pl.piece.id.trace) h.placed) (sym a) known;
+      parents = λ b c. absurd (none b (subst (λ (bs : List ℕ). Contains bs b) a c));
       room = subst (λ (bs : List ℕ). length image.bytes + room_left set bs < 2 ^ 30) (sym a) (omega (arith, room, ap length b, h.short));
     }
   where
+    none : (b : ℕ) → Contains {X = ℕ} [] b → ⊥
+    none b (i, lt, e) = omega (arith, lt)
+
+    jumps_sound : (label_of : PieceId → Option (List BoxId)) (pls : List Placed) → AllByRecursion (IsSound set label_of) (map (λ (pl : Placed). pl.piece) pls) → AllByRecursion (JumpsAmong label_of) pls
+    jumps_sound label_of [] s = tt
+    jumps_sound label_of (pl ∷ pls) s = (s.0.jumps_fit, jumps_sound label_of pls s.1)
+
     room_first : (set : TraceSet) (loops : List OptTrace) (registers : ℕ) → CanCompile set loops registers → 49 + room_for (all_pieces loops) + room_left set [] < 2 ^ 30
     room_first set loops registers can =
         let w = trace_weight set in

@@ -10,7 +10,7 @@ use Rattle.trace_ops.specs.declared.piece.PieceId.{PieceId}
 use Rattle.trace_ops.specs.declared.piece.OptOp.{OptOp}
 use Rattle.trace_ops.specs.declared.piece.OptOp.TheVariants as opt
 use Rattle.trace_ops.specs.declared.piece.Piece.{Piece}
-use Rattle.trace_ops.specs.Pieces.{size_of}
+use Rattle.trace_ops.specs.Pieces.{size_of, FitsLabel}
 use Rattle.trace_ops.specs.Sound.{IsSound, AreApart as AreDifferent}
 use Rattle.trace_ops.specs.InRange.{IsInRange}
 use Rattle.trace_ops.specs.WellFormed.{IsWellFormed}
@@ -113,17 +113,24 @@ bytes_unless false weight = 128 + 256 * weight
 abbrev pub room_left : TraceSet → List ℕ → ℕ
 room_left set bs = sum_below (λ (k : ℕ). bytes_unless (is_among bs k) (trace_weight set k)) (length set.traces)
 
+-- each jump of a piece goes to a piece of these names, with a value of the right kind for each box of its label
+abbrev pub JumpsAmong : (PieceId → Option (List BoxId)) → Placed → Type 0
+JumpsAmong label_of pl = All (FitsLabel label_of) pl.piece.ops
+
 -- The image of placed pieces, among them those of the bridges that are attached. The code is the common exit and then, one behind the
--- other, the pieces; each jump leads where it should now; and there is a row for each exit.
+-- other, the pieces; each jump leads where it should now, and to one of the pieces; there is a row for each exit; and the parent of an
+-- attached bridge is a loop or attached too.
 pub record IsImageOf (set : TraceSet) (placed : List Placed) (image : Imaged) : Type 0 where
   pub code : image.bytes ≡ spelled common_code ++ all_bytes placed
   pub last : ℕ
   pub laid : AreLaid (length (spelled common_code)) 0 placed (length image.bytes) last
   pub standing : AllByRecursion (IsStanding set image.registers (words_for set image.attached)) placed
   pub leads : AllByRecursion (AllLeadNow set.traces image.attached placed) placed
+  pub closed : AllByRecursion (JumpsAmong (label_in (map (λ (pl : Placed). pl.piece) placed))) placed
   pub exits : image.exits ≡ all_rows placed
   pub heres : AreHere placed image.pieces
   pub known : AllByRecursion (λ (pl : Placed). IsKnown set image.attached pl.piece.id.trace) placed
+  pub parents : (b : ℕ) → Contains image.attached b → ¬ LacksParent set image.attached b
   pub room : length image.bytes + room_left set image.attached < 2 ^ 30
 
 -- ---- the pieces of a bridge
@@ -264,3 +271,9 @@ pub record IsGrown (set : TraceSet) (bridge : ℕ) (pieces : List Piece) (placed
   pub entered : AllByRecursion (IsEntered set.traces bridge old.exits) news
   pub image_of : IsImageOf set (map (led_on set.traces bridge news) placed ++ news) new
   pub registers : new.registers ≡ old.registers
+
+-- Behind an attachment each further bridge may be attached that isn't yet and whose parent is there, with fitting pieces.
+abbrev pub AttachesAgain : Type 0
+AttachesAgain = (set : TraceSet) (bridge : ℕ) (pieces : List Piece) (placed : List Placed) (old new : Imaged) → CanAttach set old bridge pieces → (grown : IsGrown set bridge pieces placed old new)
+    → (next : ℕ) (more : List Piece) → IsBridge set next → ¬ Contains new.attached next → ¬ LacksParent set new.attached next
+    → AreOfBridge set (map (led_on set.traces bridge grown.news) placed ++ grown.news) next more → CanAttach set new next more

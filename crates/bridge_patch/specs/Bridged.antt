@@ -1,5 +1,5 @@
 -- The bridges of a set, and which of them may be attached.
-use Rattle.std.specs.Prelude.{◌≡◌, ℕ, Bool, true, false, List, [], ◌∷◌, Option, Some, None, slice_get, option_and_then, if◌then◌else◌}
+use Rattle.std.specs.Prelude.{◌≡◌, ℕ, ◌==◌, ◌&&◌, Bool, true, false, List, [], ◌∷◌, Option, Some, None, slice_get, option_and_then, if◌then◌else◌}
 use Rattle.std.specs.Option.{option_map}
 use Rattle.std.specs.List.{Contains}
 use Rattle.trace_ops.specs.declared.trace.Origin.{Origin}
@@ -30,6 +30,11 @@ from_origin traces (Bridge parent guard) = option_map (λ (p : ℕ). (p, guard))
 
 abbrev pub source_of : List Trace → ℕ → Option (ℕ × ℕ)
 source_of traces b = option_and_then (λ (t : Trace). from_origin traces t.origin) (slice_get traces b)
+
+-- a guard of trace p, if it is one, is that of this trace and number
+abbrev pub comes_from : Option (ℕ × ℕ) → ℕ → Option ℕ → Bool
+comes_from (Some source) p (Some n) = (source.1 == n) && (source.0 == p)
+comes_from _ p guard = false
 
 -- a bridge comes from a bridge that isn't one of these
 pub record LacksParent (set : TraceSet) (bs : List ℕ) (b : ℕ) : Type 0 where

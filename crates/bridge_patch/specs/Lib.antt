@@ -4,3 +4,4 @@ pub mod Planning
 pub mod Laid
 pub mod Bridged
 pub mod Attached
+pub mod Bridging

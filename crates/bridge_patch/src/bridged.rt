@@ -4,8 +4,9 @@
 ghost use Rattle.std.specs.Prelude.{◌≡◌, ◌↔◌, true, slice_get, IsTrue, IfOk, IfErr, Some};
 ghost use Rattle.std.specs.List.{Contains};
 ghost use Rattle.trace_ops.specs.Weights.{place_of};
-ghost use Rattle.bridge_patch.specs.Bridged.{LacksParent, IsRefused, source_of, from_origin, is_bridging};
+ghost use Rattle.bridge_patch.specs.Bridged.{LacksParent, IsRefused, source_of, from_origin, is_bridging, comes_from};
 
+use guard_exit::ExitRow;
 use trace_ops::{Origin, Text, Trace, TraceSet};
 
 /// Why a bridge isn't attached: it is attached already, or its parent is a bridge that isn't.
@@ -36,13 +37,23 @@ fn from_origin(traces: &[Trace], origin: Origin) -> Option<(usize, u32)>
 }
 
 // The trace and the guard from which a bridge comes.
-fn source_of(set: &TraceSet, bridge: u32) -> Option<(usize, u32)>
+pub(crate) fn source_of(set: &TraceSet, bridge: u32) -> Option<(usize, u32)>
     ensures { result ≡ source_of set.now.traces bridge }
 {
     let traces = set.traces.items();
     match traces.get(bridge as usize) {
         Some(trace) => from_origin(traces, trace.origin),
         None => None,
+    }
+}
+
+// Whether a row is that of a copy of this guard of a trace.
+pub(crate) fn is_copy(source: Option<(usize, u32)>, row: &ExitRow) -> bool
+    ensures { result ≡ comes_from source row.now.id.trace row.now.guard }
+{
+    match (source, row.guard) {
+        (Some((trace, guard)), Some(n)) => guard == n && trace == row.id.trace as usize,
+        _ => false,
     }
 }
 

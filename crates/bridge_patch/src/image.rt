@@ -1,20 +1,25 @@
 //! The image of a trace set.
 #![tactic(auto)]
 
-ghost use Rattle.std.specs.Prelude.{◌≡◌, ◌≢◌, ◌<◌, ◌^◌, List as Items, [], length, map, IfOk, IfErr, IfSome, IfNone};
+ghost use Rattle.std.specs.Prelude.{◌≡◌, ◌≢◌, ◌<◌, ◌^◌, List as Items, [], length, map, IfOk, IfErr, OnOk, OnErr, IfSome, IfNone};
 ghost use Rattle.std.specs.List.{All, Contains};
 ghost use Rattle.opt_meaning.specs.Pieces.{all_pieces, preamble};
 ghost use Rattle.bridge_patch.specs.declared.image.PieceHere.{PieceHere};
 ghost use Rattle.bridge_patch.specs.Pieces.{Placed};
 ghost use Rattle.bridge_patch.specs.Image.{CanCompile, IsImage, entry_in};
 ghost use Rattle.bridge_patch.specs.Bridged.{IsBridge, LacksParent, IsRefused};
-ghost use Rattle.bridge_patch.specs.Attached.{IsImageOf};
+ghost use Rattle.bridge_patch.specs.Attached.{IsImageOf, AreOfBridge, CanAttach, IsChanged, IsGrown};
 
-use crate::bridged::{Refusal, attachable};
+use crate::attaching::patches;
+use crate::bridged::{Refusal, attachable, source_of};
+use crate::bridging::lay_out_bridge;
 use crate::flat::add_pieces;
 use crate::laying::{Laid, lay_out_all};
+use asm_select::labels_serve;
+use code_layout::{chosen_jumps, jumps_are_patched, slots_are_emitted};
 use code_region::Region;
 use guard_exit::ExitRow;
+use linear_scan::boxes_live;
 use resume_numbering::ResumeTable;
 use std::alloc::{AllocError, Global};
 use std::marker::Model;
@@ -45,13 +50,13 @@ pub struct PieceHere {
 /// The code of a set's pieces, with the rows of its exits.
 #[derive(Drop)]
 pub struct Image {
-    alloc: Global,
-    registers: u8,
-    code: Region,
-    pieces: Vec<PieceHere>,
-    exits: Vec<ExitRow>,
-    attached: Vec<u32>,
-    changes: Vec<Change>,
+    pub(crate) alloc: Global,
+    pub(crate) registers: u8,
+    pub(crate) code: Region,
+    pub(crate) pieces: Vec<PieceHere>,
+    pub(crate) exits: Vec<ExitRow>,
+    pub(crate) attached: Vec<u32>,
+    pub(crate) changes: Vec<Change>,
 }
 
 impl Model for Image {
@@ -121,6 +126,35 @@ impl Image {
         ensures err { IfErr result (λ e. IsRefused set.now self.now.attached bridge e) }
     {
         attachable(&self.attached, set, bridge)
+    }
+
+    /// Attaches the pieces of a bridge: their code is appended, and each copy of the guard is patched to lead in front of the piece of
+    /// its half, where the guard's boxes are moved to the places of the label. The set is the one that was compiled, and the bridge is
+    /// [`Image::attachable`]; there is one sound piece for each half in which the guard is kept, whose label has the guard's boxes,
+    /// and each piece to which one of them jumps is in the image. All memory is taken first: where it is refused, the image is as
+    /// before.
+    pub fn attach(&mut self, set: &TraceSet, bridge: u32, opt: &OptTrace) -> Result<(), AllocError>
+        requires { CanAttach set.now self.old bridge opt.now.pieces }
+        ensures changed { OnOk result (IsChanged set.now bridge opt.now.pieces self.old self.new) }
+        ensures placed { OnOk result ((placed : Items Placed) → IsImageOf set.now placed self.old → AreOfBridge set.now placed bridge opt.now.pieces → IsGrown set.now bridge opt.now.pieces placed self.old self.new) }
+        ensures err { OnErr result (self.new ≡ self.old) }
+    {
+        boxes_live();
+        labels_serve();
+        slots_are_emitted();
+        chosen_jumps();
+        jumps_are_patched();
+        let source = source_of(set, bridge);
+        let laid = lay_out_bridge(self, set, source, opt.pieces.items())?;
+        let patches = patches(
+            self.alloc,
+            &self.code,
+            &self.exits,
+            source,
+            bridge,
+            &laid.pieces,
+        )?;
+        self.extend(bridge, laid, patches)
     }
 
     /// The code: the common exit, and behind it the pieces.

@@ -27,7 +27,7 @@ use trace_ops::{Piece, PieceId, TraceSet};
 use x64_encode::spellings_are_short;
 
 // Adds the code and the rows of a piece that is planned to begin here.
-fn add_piece(
+pub(crate) fn add_piece(
     alloc: Global,
     draft: &mut Draft,
     rows: &mut Vec<ExitRow>,
@@ -82,7 +82,7 @@ fn common_draft(alloc: Global) -> Result<Draft, AllocError>
 }
 
 // What is kept of a piece that is laid out as it is planned.
-fn here_of(alloc: Global, plan: &Plan, piece: &Piece) -> Result<PieceHere, AllocError>
+pub(crate) fn here_of(alloc: Global, plan: &Plan, piece: &Piece) -> Result<PieceHere, AllocError>
     requires { CanNumber piece.now }
     ensures { IfOk result (λ here. IsHereOf piece.now plan.now here) }
 {

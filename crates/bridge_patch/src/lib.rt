@@ -1,9 +1,13 @@
 //! The image of a trace set: the code of its pieces, with exits, under patches.
 #![tactic(auto)]
 
+mod attaching;
 mod bridged;
+mod bridging;
+mod entry;
 mod flat;
 mod image;
+mod laws;
 mod laying;
 mod layout;
 mod plan;
@@ -12,3 +16,4 @@ mod rows;
 
 pub use bridged::Refusal;
 pub use image::{Change, Image, PieceHere};
+pub use laws::bridges_attach_again;

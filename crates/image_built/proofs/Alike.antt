@@ -18,20 +18,22 @@ use Rattle.guard_exit.specs.declared.row.ExitRow.{ExitRow}
 use Rattle.x64_machine.specs.State.{State}
 use Rattle.asm_select.specs.Chosen.{Setting}
 use Rattle.bridge_patch.specs.Image.{Imaged}
-use Rattle.image_runs.specs.Printed.{Part, Printed, bridges_at}
+use Rattle.image_runs.specs.Printed.{Part, Printed, code_at, rows_at, bridges_at}
+use Rattle.image_runs.specs.Attached.{widened}
 use Rattle.image_runs.specs.Session.{Host, Calls, End, Shows, Full, Waiting, Misfitting, Lost, Activation, Session, SessionRun}
 use Rattle.image_runs.specs.Selection.{Model, EndsBy, ended}
 use Rattle.image_runs.specs.Runs.{world_now}
 use Rattle.image_runs.specs.Image.{Image, code_in, IsImage}
 use Rattle.image_runs.specs.Kept.{first_of}
 use Rattle.image_runs.specs.Following.{AnswersMakeNone, begun_of, first_now, first_leg, Refused, Follows, Goes, Shows_end, Refuses, Strays, IsActive}
-use Rattle.image_runs.specs.Sessions.{SessionStands, OneStands}
+use Rattle.image_runs.specs.Sessions.{ImageStands, OneStands, SessionStands}
 use Rattle.image_runs.specs.Laws.{BuiltStands, RunKeeps, ForwardBound, ShownBackward, WaitsBackward, MisfitsBackward, FullBeside, GoingCalls, ShownCalls}
 use Rattle.image_model.specs.Modelled.{SameCalls, model_of}
 use Rattle.image_model.specs.Laws.{HostServes}
 use Rattle.image_built.specs.Built.{image_of, settings_from}
-use Rattle.image_built.specs.Laws.{Compiled, StayReady, Keeps, model_for, HostStarts, IsPrinted, CompiledIsBuilt}
-use Rattle.image_built.specs.Running.{no_session, now_after, leg_after, PiecesEnd, GoneWrong, EndsAlike, By_row, Without_answer, With_misfit, For_want_of_bytes, GoesAlike, RunsAlike, CompiledRuns}
+use Rattle.image_built.specs.Attached.{AttachedIsBuilt, settings_with, pieces_in}
+use Rattle.image_built.specs.Laws.{Compiled, Keeps, model_for, HostStarts, IsPrinted, CompiledIsBuilt}
+use Rattle.image_built.specs.Running.{no_session, now_after, leg_after, PiecesEnd, GoneWrong, EndsAlike, By_row, Without_answer, With_misfit, For_want_of_bytes, GoesAlike, RunsAlike, CompiledRuns, AttachedRuns}
 
 -- the laws of runs, of one model
 pub record Keeping (m : Model) : Type 0 where
@@ -64,9 +66,9 @@ no_bridges im j e = ap (λ (l : List Part). map (λ (x : Part). x.bridge) (take 
 
 -- ---- how it has ended
 
--- the leaves of pieces under the cuts of an activation that has none
-uncut : (set : TraceSet) (ps : List Piece) (act : Activation) (n : ℕ) (q : PieceId) (l : Leave) → act.cuts ≡ [] → legs (pieces set ps act.cuts) n (first_leg (begun_of set.table act)) ≡ Ended q l → leg_after set ps act n ≡ Ended q l
-uncut set ps act n q l e h = subst (λ (c : Cuts). legs (pieces set ps c) n (first_leg (begun_of set.table act)) ≡ Ended q l) e h
+-- the leaves of pieces under an activation's cuts
+uncut : (set : TraceSet) (ps : List Piece) (cs : Cuts) (act : Activation) (n : ℕ) (q : PieceId) (l : Leave) → act.cuts ≡ cs → legs (pieces set ps act.cuts) n (first_leg (begun_of set.table act)) ≡ Ended q l → leg_after set ps cs act n ≡ Ended q l
+uncut set ps cs act n q l e h = subst (λ (c : Cuts). legs (pieces set ps c) n (first_leg (begun_of set.table act)) ≡ Ended q l) e h
 
 no_shows : (m : Model) (w : World) (turn : Turn Opt) (c : Calls) (s : State) (state : RecState) (store : Store) → EndsBy m w turn c s (Shows state store) → ⊥
 no_shows m w (On after) c s state store h = h
@@ -90,64 +92,63 @@ no_lost m w (Off (Wrong u)) c s at h = h
 abbrev of : Host → (set : TraceSet) (whole ps : List Piece) → (PieceId → Setting) → Model
 of host set whole ps settings = model_of host set whole settings ps
 
-refused : (host : Host) (set : TraceSet) (whole ps : List Piece) (settings : PieceId → Setting) (g : Image) (act : Activation) (end : End) → Keeping (of host set whole ps settings) → act.cuts ≡ [] → Refused (of host set whole ps settings) g (begun_of set.table act) act end → EndsAlike host set ps act end
-refused host set whole ps settings g act (Full asked left) k e z =
+refused : (host : Host) (set : TraceSet) (whole ps : List Piece) (settings : PieceId → Setting) (g : Image) (cs : Cuts) (act : Activation) (end : End) → Keeping (of host set whole ps settings) → act.cuts ≡ cs → Refused (of host set whole ps settings) g (begun_of set.table act) act end → EndsAlike host set ps cs act end
+refused host set whole ps settings g cs act (Full asked left) k e z =
     let now = z.reached.ran in
-    let same : now_after set ps act z.reached.operations ≡ In z.piece (z.op ∷ z.rest) z.env =
+    let same : now_after set ps cs act z.reached.operations ≡ In z.piece (z.op ∷ z.rest) z.env =
     subst (λ (c : Cuts). run (pieces set ps c) z.reached.operations (first_now (pieces set ps c) (begun_of set.table act)) ≡ In z.piece (z.op ∷ z.rest) z.env) e now in
     For_want_of_bytes z.piece z.op z.rest z.env z.reached.operations asked left same (k.full g (begun_of set.table act) act asked left z)
-refused host set whole ps settings g act Waiting k e z =
-    Without_answer z.piece (λ n le. (let r = k.waits g (begun_of set.table act) act z n le in (r.0, uncut set ps act n z.piece (Waits r.0) e r.1, r.2)))
-refused host set whole ps settings g act (Misfitting call) k e z =
-    With_misfit z.piece call (λ n le. (let r = k.misfits g (begun_of set.table act) act call z n le in (r.0, uncut set ps act n z.piece (Misfits r.0) e r.1, r.2, r.3)))
-refused host set whole ps settings g act (Shows state store) k e z = absurd (no_shows (of host set whole ps settings) z.env.world (opt_step set.table z.op z.env) act.calls act.machine state store z.ends)
-refused host set whole ps settings g act (Lost at) k e z = absurd (no_lost (of host set whole ps settings) z.env.world (opt_step set.table z.op z.env) act.calls act.machine at z.ends)
+refused host set whole ps settings g cs act Waiting k e z =
+    Without_answer z.piece (λ n le. (let r = k.waits g (begun_of set.table act) act z n le in (r.0, uncut set ps cs act n z.piece (Waits r.0) e r.1, r.2)))
+refused host set whole ps settings g cs act (Misfitting call) k e z =
+    With_misfit z.piece call (λ n le. (let r = k.misfits g (begun_of set.table act) act call z n le in (r.0, uncut set ps cs act n z.piece (Misfits r.0) e r.1, r.2, r.3)))
+refused host set whole ps settings g cs act (Shows state store) k e z = absurd (no_shows (of host set whole ps settings) z.env.world (opt_step set.table z.op z.env) act.calls act.machine state store z.ends)
+refused host set whole ps settings g cs act (Lost at) k e z = absurd (no_lost (of host set whole ps settings) z.env.world (opt_step set.table z.op z.env) act.calls act.machine at z.ends)
 
-strayed : (set : TraceSet) (ps : List Piece) (act : Activation) (q : PieceId) (w : World) (n : ℕ) → act.cuts ≡ [] → run (pieces set ps act.cuts) n (first_now (pieces set ps act.cuts) (begun_of set.table act)) ≡ Over q (Wrong w) → GoneWrong set ps act
-strayed set ps act q w n e h = (n, q, w, subst (λ (c : Cuts). run (pieces set ps c) n (first_now (pieces set ps c) (begun_of set.table act)) ≡ Over q (Wrong w)) e h)
+strayed : (set : TraceSet) (ps : List Piece) (cs : Cuts) (act : Activation) (q : PieceId) (w : World) (n : ℕ) → act.cuts ≡ cs → run (pieces set ps act.cuts) n (first_now (pieces set ps act.cuts) (begun_of set.table act)) ≡ Over q (Wrong w) → GoneWrong set ps cs act
+strayed set ps cs act q w n e h = (n, q, w, subst (λ (c : Cuts). run (pieces set ps c) n (first_now (pieces set ps c) (begun_of set.table act)) ≡ Over q (Wrong w)) e h)
 
-has_ended : (host : Host) (set : TraceSet) (whole ps : List Piece) (settings : PieceId → Setting) (g : Image) (act : Activation) → Keeping (of host set whole ps settings) → act.cuts ≡ [] → Follows (of host set whole ps settings) g (begun_of set.table act) act
-    → (end : End) → act.end ≡ Some end → EndsAlike host set ps act end ⊎ GoneWrong set ps act
-has_ended host set whole ps settings g act k e (Goes none z) end is = none_some act.end end none is
-has_ended host set whole ps settings g act k e (Shows_end x same z) end is =
+has_ended : (host : Host) (set : TraceSet) (whole ps : List Piece) (settings : PieceId → Setting) (g : Image) (cs : Cuts) (act : Activation) → Keeping (of host set whole ps settings) → act.cuts ≡ cs → Follows (of host set whole ps settings) g (begun_of set.table act) act
+    → (end : End) → act.end ≡ Some end → EndsAlike host set ps cs act end ⊎ GoneWrong set ps cs act
+has_ended host set whole ps settings g cs act k e (Goes none z) end is = none_some act.end end none is
+has_ended host set whole ps settings g cs act k e (Shows_end x same z) end is =
     let b = begun_of set.table act in
     let one : x ≡ end = some_one act.end x end same is in
     let calls = k.calls g b act x z in
-    let ends : PiecesEnd set ps act z.pl.id (ended z.leave) = λ n le. uncut set ps act n z.pl.id (ended z.leave) e (k.shown g b act x z n le) in
-    inl (subst (EndsAlike host set ps act) one (By_row x z.pl.id z.leave z.row z.row_is.0 z.row_is.1 z.shows calls ends))
-has_ended host set whole ps settings g act k e (Refuses x same z) end is =
+    let ends : PiecesEnd set ps cs act z.pl.id (ended z.leave) = λ n le. uncut set ps cs act n z.pl.id (ended z.leave) e (k.shown g b act x z n le) in
+    inl (subst (EndsAlike host set ps cs act) one (By_row x z.pl.id z.leave z.row z.row_is.0 z.row_is.1 z.shows calls ends))
+has_ended host set whole ps settings g cs act k e (Refuses x same z) end is =
     let one : x ≡ end = some_one act.end x end same is in
-    inl (subst (EndsAlike host set ps act) one (refused host set whole ps settings g act x k e z))
-has_ended host set whole ps settings g act k e (Strays q w z) end is = inr (strayed set ps act q w z.operations e z.ran)
+    inl (subst (EndsAlike host set ps cs act) one (refused host set whole ps settings g cs act x k e z))
+has_ended host set whole ps settings g cs act k e (Strays q w z) end is = inr (strayed set ps cs act q w z.operations e z.ran)
 
 -- ---- how it goes
 
-goes_on : (host : Host) (set : TraceSet) (whole ps : List Piece) (settings : PieceId → Setting) (g : Image) (act : Activation) → Keeping (of host set whole ps settings) → act.cuts ≡ [] → Follows (of host set whole ps settings) g (begun_of set.table act) act
-    → act.end ≡ None → GoesAlike set ps act ⊎ GoneWrong set ps act
-goes_on host set whole ps settings g act k e (Goes none z) is =
+goes_on : (host : Host) (set : TraceSet) (whole ps : List Piece) (settings : PieceId → Setting) (g : Image) (cs : Cuts) (act : Activation) → Keeping (of host set whole ps settings) → act.cuts ≡ cs → Follows (of host set whole ps settings) g (begun_of set.table act) act
+    → act.end ≡ None → GoesAlike set ps cs act ⊎ GoneWrong set ps cs act
+goes_on host set whole ps settings g cs act k e (Goes none z) is =
     let b = begun_of set.table act in
     let n = z.reached.operations in
-    let now : z.x ≡ now_after set ps act n = subst (λ (c : Cuts). z.x ≡ run (pieces set ps c) n (first_now (pieces set ps c) b)) e (sym z.reached.ran) in
+    let now : z.x ≡ now_after set ps cs act n = subst (λ (c : Cuts). z.x ≡ run (pieces set ps c) n (first_now (pieces set ps c) b)) e (sym z.reached.ran) in
     inl (record {
       operations = n;
-      calls = subst (λ (x : PiecesNow). SameCalls (world_now (pieces set ps []) x) act.calls) now (subst (λ (c : Cuts). SameCalls (world_now (pieces set ps c) z.x) act.calls) e (k.going g b act z));
-      failures = subst (λ (x : PiecesNow). (world_now (pieces set ps []) x).failures ≡ act.failures) now (subst (λ (c : Cuts). (world_now (pieces set ps c) z.x).failures ≡ act.failures) e z.exact);
+      calls = subst (λ (x : PiecesNow). SameCalls (world_now (pieces set ps cs) x) act.calls) now (subst (λ (c : Cuts). SameCalls (world_now (pieces set ps c) z.x) act.calls) e (k.going g b act z));
+      failures = subst (λ (x : PiecesNow). (world_now (pieces set ps cs) x).failures ≡ act.failures) now (subst (λ (c : Cuts). (world_now (pieces set ps c) z.x).failures ≡ act.failures) e z.exact);
     })
-goes_on host set whole ps settings g act k e (Shows_end x same z) is = none_some act.end x is same
-goes_on host set whole ps settings g act k e (Refuses x same z) is = none_some act.end x is same
-goes_on host set whole ps settings g act k e (Strays q w z) is = inr (strayed set ps act q w z.operations e z.ran)
+goes_on host set whole ps settings g cs act k e (Shows_end x same z) is = none_some act.end x is same
+goes_on host set whole ps settings g cs act k e (Refuses x same z) is = none_some act.end x is same
+goes_on host set whole ps settings g cs act k e (Strays q w z) is = inr (strayed set ps cs act q w z.operations e z.ran)
 
 -- ---- one activation
 
-runs_alike : (host : Host) (set : TraceSet) (whole ps : List Piece) (settings : PieceId → Setting) (g : Image) (rows : List ExitRow) (bytes : List ℕ) (act : Activation) → Keeping (of host set whole ps settings) → AnswersMakeNone host
-    → IsImage (of host set whole ps settings) g [] rows → code_in g ≡ bytes → IsActive (of host set whole ps settings) g [] (begun_of set.table act) act → RunsAlike host set ps (length bytes) act
-runs_alike host set whole ps settings g rows bytes act k none image code active =
-    let e : act.cuts ≡ [] = no_cuts act.cuts active.cuts in
+runs_alike : (host : Host) (set : TraceSet) (whole ps : List Piece) (settings : PieceId → Setting) (g : Image) (bs : List ℕ) (rows : List ExitRow) (bytes : List ℕ) (cs : Cuts) (act : Activation) → Keeping (of host set whole ps settings) → AnswersMakeNone host
+    → IsImage (of host set whole ps settings) g bs rows → code_in g ≡ bytes → act.cuts ≡ cs → IsActive (of host set whole ps settings) g bs (begun_of set.table act) act → RunsAlike host set ps cs (length bytes) act
+runs_alike host set whole ps settings g bs rows bytes cs act k none image code e active =
     let b = begun_of set.table act in record {
       forward = λ n q l going legs_end le.
-          k.forward g [] rows b act n q l none image active going (subst (λ (c : Cuts). legs (pieces set ps c) n (first_leg b) ≡ Ended q l) (sym e) legs_end) (subst (λ (x : List ℕ). (n + 1) * length x ≤ act.machine.instructions) (sym code) le);
-      ends = has_ended host set whole ps settings g act k e active.follows;
-      goes = goes_on host set whole ps settings g act k e active.follows;
+          k.forward g bs rows b act n q l none image active going (subst (λ (c : Cuts). legs (pieces set ps c) n (first_leg b) ≡ Ended q l) (sym e) legs_end) (subst (λ (x : List ℕ). (n + 1) * length x ≤ act.machine.instructions) (sym code) le);
+      ends = has_ended host set whole ps settings g cs act k e active.follows;
+      goes = goes_on host set whole ps settings g cs act k e active.follows;
     }
 
 -- ---- all of a session
@@ -156,27 +157,46 @@ all_weaker : {X : Type 0} (P Q : X → Type 0) (xs : List X) → ((x : X) → P 
 all_weaker P Q xs f h k d lt = f (slice_index_or xs k d) (h k d lt)
 
 runs_in : (host : Host) → CompiledIsBuilt host → (set : TraceSet) (whole : List Piece) (other : PieceId → Setting) (loops : List OptTrace) (image : Imaged) (z : Compiled set loops image) (im : Printed) (s : Session)
-    → Keeping (model_for host set whole other loops image z) → HostServes host set.table → HostStarts host set → AnswersMakeNone host → StayReady set (all_pieces loops) → Keeps (all_pieces loops) whole → IsPrinted set (all_pieces loops) image im → im.parts ≡ []
-    → SessionRun host im no_session s → All (RunsAlike host set (all_pieces loops) (length image.bytes)) s.activations
-runs_in host is_built set whole other loops image z im s k serves starts none ready keeps printed parts ran =
+    → Keeping (model_for host set whole other loops image z) → HostServes host set.table → HostStarts host set → AnswersMakeNone host → Keeps (all_pieces loops) whole → IsPrinted set (all_pieces loops) image im → im.parts ≡ []
+    → SessionRun host im no_session s → All (RunsAlike host set (all_pieces loops) [] (length image.bytes)) s.activations
+runs_in host is_built set whole other loops image z im s k serves starts none keeps printed parts ran =
     let ps = all_pieces loops in
     let g = image_of z.made.placed in
     let m = model_for host set whole other loops image z in
     let settings = settings_from 0 z.made.placed other in
-    let built = is_built set whole other loops image z im serves starts ready keeps printed parts in
+    let built = is_built set whole other loops image z im serves starts keeps printed parts in
     let stands = k.built (λ j. ps) (λ j. g) im built in
     let first : SessionStands m (λ j. ps) (λ j. g) im no_session = record { within = omega arith; each = All-nil (OneStands m (λ j. ps) (λ j. g) im 0) } in
     let last = k.keeps (λ j. ps) (λ j. g) im no_session s none stands first ran in
     let code : code_in g ≡ image.bytes = sym built.base ∙ printed.base in
     let bare = no_bridges im s.parts parts in
-    all_weaker (OneStands m (λ j. ps) (λ j. g) im s.parts) (RunsAlike host set ps (length image.bytes)) s.activations
-    (λ act one. runs_alike host set whole ps settings g im.rows image.bytes act k none built.compiled code (subst (λ (bs : List ℕ). IsActive m g bs (begun_of set.table act) act) bare one.1)) last.each
+    all_weaker (OneStands m (λ j. ps) (λ j. g) im s.parts) (RunsAlike host set ps [] (length image.bytes)) s.activations
+    (λ act one. (let active = subst (λ (bs : List ℕ). IsActive m g bs (begun_of set.table act) act) bare one.1 in runs_alike host set whole ps settings g [] im.rows image.bytes [] act k none built.compiled code (no_cuts act.cuts active.cuts) active)) last.each
 
 pub compiled_runs : (host : Host) (set : TraceSet) (whole ps : List Piece) (settings : PieceId → Setting) → CompiledIsBuilt host → Keeping (of host set whole ps settings) → CompiledRuns host set whole ps settings
-compiled_runs host set whole ps settings built k other loops image z im s same_pieces same_settings serves starts none ready keeps printed parts ran =
+compiled_runs host set whole ps settings built k other loops image z im s same_pieces same_settings serves starts none keeps printed parts ran =
     let all = all_pieces loops in
     let here = subst (λ (c : PieceId → Setting). Keeping (of host set whole all c)) same_settings (subst (λ (l : List Piece). Keeping (of host set whole l settings)) same_pieces k) in
-    let stays = subst (λ (l : List Piece). StayReady set l) same_pieces ready in
     let kept = subst (λ (l : List Piece). Keeps l whole) same_pieces keeps in
     let text = subst (λ (l : List Piece). IsPrinted set l image im) same_pieces printed in
-    subst (λ (l : List Piece). All (RunsAlike host set l (length image.bytes)) s.activations) (sym same_pieces) (runs_in host built set whole other loops image z im s here serves starts none stays kept text parts ran)
+    subst (λ (l : List Piece). All (RunsAlike host set l [] (length image.bytes)) s.activations) (sym same_pieces) (runs_in host built set whole other loops image z im s here serves starts none kept text parts ran)
+
+-- ---- with bridges
+
+pub attached_runs : (host : Host) (set : TraceSet) (whole ps : List Piece) (settings : PieceId → Setting) → AttachedIsBuilt host → Keeping (of host set whole ps settings) → AttachedRuns host set whole ps settings
+attached_runs host set whole ps settings built k other loops count z im s same_pieces same_settings serves starts none keeps printed ran =
+    let own = settings_with set loops count z other in
+    let here = subst (λ (c : PieceId → Setting). Keeping (of host set whole ps c)) same_settings k in
+    let m = of host set whole ps own in
+    let p = λ (j : ℕ). pieces_in (z.placed j) in
+    let g = λ (j : ℕ). image_of (z.placed j) in
+    let n = s.parts in
+    let b = built set whole other loops count z im serves starts keeps printed in
+    let stands : ImageStands m p g im = here.built p g im (record { base = b.base; compiled = b.compiled; attached = b.attached; begins = b.begins }) in
+    let first : SessionStands m p g im no_session = record { within = omega arith; each = All-nil (OneStands m p g im 0) } in
+    let last = here.keeps p g im no_session s none stands first ran in
+    let code : code_in (g n) ≡ code_at im n = sym (stands.code n last.within) in
+    let image : IsImage m (g n) (bridges_at im n) (rows_at im n) = subst (λ (l : List Piece). IsImage (widened m l) (g n) (bridges_at im n) (rows_at im n)) (sym same_pieces) (stands.image n last.within) in
+    all_weaker (OneStands m p g im n) (λ (act : Activation). RunsAlike host set ps act.cuts (length (code_at im n)) act) s.activations
+    (λ act one. (let active : IsActive m (g n) (bridges_at im n) (begun_of set.table act) act = subst (λ (l : List Piece). IsActive (widened m l) (g n) (bridges_at im n) (begun_of set.table act) act) (sym same_pieces) one.1 in
+    runs_alike host set whole ps own (g n) (bridges_at im n) (rows_at im n) (code_at im n) act.cuts act here none image code refl active)) last.each

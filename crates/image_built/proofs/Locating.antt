@@ -81,7 +81,7 @@ off_most b ops e h = omega (arith, h.key, ap length h.split, length_middle h.don
     length_middle [] ys x = omega arith
     length_middle (z ∷ xs) ys x = omega (arith, length_middle xs ys x)
 
-once_from : ChosenJumps → (b : ℕ) (pls : List Placed) → AllByRecursion (λ (pl : Placed). AreChosen pl.setting 0 tell.Nothing pl.piece.ops) pls → JumpsOnce (slots_from b pls) × KeysAre (λ (e : ℕ). b ≤ e) (slots_from b pls)
+pub once_from : ChosenJumps → (b : ℕ) (pls : List Placed) → AllByRecursion (λ (pl : Placed). AreChosen pl.setting 0 tell.Nothing pl.piece.ops) pls → JumpsOnce (slots_from b pls) × KeysAre (λ (e : ℕ). b ≤ e) (slots_from b pls)
 once_from theirs b [] h = (tt, tt)
 once_from theirs b (pl ∷ pls) h =
     let ops = pl.piece.ops in

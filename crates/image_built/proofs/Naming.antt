@@ -23,7 +23,8 @@ use Rattle.trace_ops.specs.Kinds.{kind_of_arg}
 use Rattle.trace_ops.specs.Pieces.{FitsLabel}
 use Rattle.opt_meaning.specs.Pieces.{same_piece, piece_at, ops_of, all_pieces, last_of, named_by, jump_target}
 use Rattle.asm_select.specs.Chosen.{Setting}
-use Rattle.bridge_patch.specs.Pieces.{Placed, start_of, start_in}
+use Rattle.bridge_patch.specs.Pieces.{Placed, start_of, start_in, label_at}
+use Rattle.bridge_patch.specs.Attached.{begin_in, places_in}
 use Rattle.bridge_patch.specs.Image.{label_in, ArePiecesOf, loop_if, loops_from, AreOfLoops}
 use Rattle.image_built.specs.Built.{keyed, settings_from}
 use Rattle.image_built.proofs.Splitting.{keys_in}
@@ -61,11 +62,11 @@ abbrev pub AreOnce : List Piece → Type 0
 AreOnce [] = Unit {0}
 AreOnce (p ∷ ps) = AllByRecursion (λ (x : Piece). same_piece x.id p.id ≡ false) ps × AreOnce ps
 
-each_weaker : {X : Type 0} (P Q : X → Type 0) (xs : List X) → ((x : X) → P x → Q x) → AllByRecursion P xs → AllByRecursion Q xs
+pub each_weaker : {X : Type 0} (P Q : X → Type 0) (xs : List X) → ((x : X) → P x → Q x) → AllByRecursion P xs → AllByRecursion Q xs
 each_weaker P Q [] f h = tt
 each_weaker P Q (x ∷ xs) f h = (f x h.0, each_weaker P Q xs f h.1)
 
-each_append : {X : Type 0} (P : X → Type 0) (xs ys : List X) → AllByRecursion P xs → AllByRecursion P ys → AllByRecursion P (xs ++ ys)
+pub each_append : {X : Type 0} (P : X → Type 0) (xs ys : List X) → AllByRecursion P xs → AllByRecursion P ys → AllByRecursion P (xs ++ ys)
 each_append P [] ys a b = b
 each_append P (x ∷ xs) ys a b = (a.0, each_append P xs ys a.1 b)
 
@@ -127,75 +128,74 @@ loops_once names ts os h = (once_from names 0 ts os h).0
 abbrev pub piece_of : Placed → Piece
 piece_of pl = pl.piece
 
--- where the first piece of a name begins
-abbrev pub at_in : List Placed → PieceId → ℕ
-at_in [] q = 0
-at_in (pl ∷ pls) q = cond (same_piece q pl.piece.id) pl.at (at_in pls q)
-
 -- the piece in the code that is found by a name
-pub record Found (pls : List Placed) (b : ℕ) (other : PieceId → Setting) (q : PieceId) (p : Piece) : Type 0 where
+pub record Found (pls : List Placed) (q : PieceId) (p : Piece) : Type 0 where
   pub before : List Placed
   pub pl : Placed
   pub after : List Placed
   pub here : pls ≡ before ++ pl ∷ after
   pub piece : pl.piece ≡ p
   pub named : q ≡ pl.piece.id
-  pub begins : at_in pls q ≡ pl.at
+  pub begins : begin_in pls q ≡ pl.at
   pub start : start_in pls q ≡ start_of pl
-  pub setting : settings_from b pls other q ≡ keyed (b + keys_in before) pl.setting
+  pub places : places_in pls q ≡ label_at pl
 
 pub some_is : {X : Type 0} {x y : X} → Some x ≡ Some y → x ≡ y
 some_is e = cc
 
-found_if : TellsNames → (pls : List Placed) (b : ℕ) (other : PieceId → Setting) (q : PieceId) (p : Piece) (x : Placed) (t : Bool) → same_piece q x.piece.id ≡ t → cond t (Some x.piece) (piece_at (map piece_of pls) q) ≡ Some p
-    → (piece_at (map piece_of pls) q ≡ Some p → Found pls (b + length x.piece.ops) other q p) → Found (x ∷ pls) b other q p
-found_if names pls b other q p x true t e more =
-    let n : b ≡ b + 0 = omega arith in record {
-      before = [];
-      pl = x;
-      after = pls;
-      here = refl;
-      piece = some_is e;
-      named = (names q x.piece.id).0 t;
-      begins = ap (λ (i : Bool). cond i x.at (at_in pls q)) t;
-      start = ap (λ (i : Bool). cond i (start_of x) (start_in pls q)) t;
-      setting = ap (λ (i : Bool). cond i (keyed b x.setting) (settings_from (b + length x.piece.ops) pls other q)) t ∙ ap (λ (k : ℕ). keyed k x.setting) n;
-    }
-found_if names pls b other q p x false t e more =
+found_if : TellsNames → (pls : List Placed) (q : PieceId) (p : Piece) (x : Placed) (t : Bool) → same_piece q x.piece.id ≡ t → cond t (Some x.piece) (piece_at (map piece_of pls) q) ≡ Some p → (piece_at (map piece_of pls) q ≡ Some p → Found pls q p) → Found (x ∷ pls) q p
+found_if names pls q p x true t e more = record {
+  before = [];
+  pl = x;
+  after = pls;
+  here = refl;
+  piece = some_is e;
+  named = (names q x.piece.id).0 t;
+  begins = ap (λ (i : Bool). cond i x.at (begin_in pls q)) t;
+  start = ap (λ (i : Bool). cond i (start_of x) (start_in pls q)) t;
+  places = ap (λ (i : Bool). cond i (label_at x) (places_in pls q)) t;
+}
+found_if names pls q p x false t e more =
     let f = more e in
-    let n : b + length x.piece.ops + keys_in f.before ≡ b + (length x.piece.ops + keys_in f.before) = omega arith in record {
+    record {
       before = x ∷ f.before;
       pl = f.pl;
       after = f.after;
       here = ap (λ (l : List Placed). x ∷ l) f.here;
       piece = f.piece;
       named = f.named;
-      begins = ap (λ (i : Bool). cond i x.at (at_in pls q)) t ∙ f.begins;
+      begins = ap (λ (i : Bool). cond i x.at (begin_in pls q)) t ∙ f.begins;
       start = ap (λ (i : Bool). cond i (start_of x) (start_in pls q)) t ∙ f.start;
-      setting = ap (λ (i : Bool). cond i (keyed b x.setting) (settings_from (b + length x.piece.ops) pls other q)) t ∙ f.setting ∙ ap (λ (k : ℕ). keyed k f.pl.setting) n;
+      places = ap (λ (i : Bool). cond i (label_at x) (places_in pls q)) t ∙ f.places;
     }
 
-pub found : TellsNames → (pls : List Placed) (b : ℕ) (other : PieceId → Setting) (q : PieceId) (p : Piece) → piece_at (map piece_of pls) q ≡ Some p → Found pls b other q p
-found names [] b other q p e = absurd (cc)
-found names (x ∷ pls) b other q p e = found_if names pls b other q p x (same_piece q x.piece.id) refl e (found names pls (b + length x.piece.ops) other q p)
+pub found : TellsNames → (pls : List Placed) (q : PieceId) (p : Piece) → piece_at (map piece_of pls) q ≡ Some p → Found pls q p
+found names [] q p e = absurd (cc)
+found names (x ∷ pls) q p e = found_if names pls q p x (same_piece q x.piece.id) refl e (found names pls q p)
 
--- and of one in the midst, whose name no other has
-pub at_split : TellsNames → (b : ℕ) (other : PieceId → Setting) (before after : List Placed) (pl : Placed) → AreOnce (map piece_of (before ++ pl ∷ after))
-    → (piece_at (map piece_of (before ++ pl ∷ after)) pl.piece.id ≡ Some pl.piece) × (settings_from b (before ++ pl ∷ after) other pl.piece.id ≡ keyed (b + keys_in before) pl.setting)
+-- the setting of one in the midst, whose name no other has, and where it begins
+pub record IsSplit (b : ℕ) (other : PieceId → Setting) (before after : List Placed) (pl : Placed) : Type 0 where
+  pub at : piece_at (map piece_of (before ++ pl ∷ after)) pl.piece.id ≡ Some pl.piece
+  pub setting : settings_from b (before ++ pl ∷ after) other pl.piece.id ≡ keyed (b + keys_in before) pl.setting
+  pub begins : begin_in (before ++ pl ∷ after) pl.piece.id ≡ pl.at
+
+pub at_split : TellsNames → (b : ℕ) (other : PieceId → Setting) (before after : List Placed) (pl : Placed) → AreOnce (map piece_of (before ++ pl ∷ after)) → IsSplit b other before after pl
 at_split names b other [] after pl once =
     let t : same_piece pl.piece.id pl.piece.id ≡ true = (names pl.piece.id pl.piece.id).1 refl in
-    let n : b ≡ b + 0 = omega arith in (
-      ap (λ (i : Bool). cond i (Some pl.piece) (piece_at (map piece_of after) pl.piece.id)) t,
-      ap (λ (i : Bool). cond i (keyed b pl.setting) (settings_from (b + length pl.piece.ops) after other pl.piece.id)) t ∙ ap (λ (k : ℕ). keyed k pl.setting) n,
-    )
+    let n : b ≡ b + 0 = omega arith in record {
+      at = ap (λ (i : Bool). cond i (Some pl.piece) (piece_at (map piece_of after) pl.piece.id)) t;
+      setting = ap (λ (i : Bool). cond i (keyed b pl.setting) (settings_from (b + length pl.piece.ops) after other pl.piece.id)) t ∙ ap (λ (k : ℕ). keyed k pl.setting) n;
+      begins = ap (λ (i : Bool). cond i pl.at (begin_in after pl.piece.id)) t;
+    }
 at_split names b other (x ∷ before) after pl once =
     let more = at_split names (b + length x.piece.ops) other before after pl once.1 in
     let others = subst (λ (l : List Piece). AllByRecursion (λ (y : Piece). same_piece y.id x.piece.id ≡ false) l) (map-around piece_of before after pl) once.0 in
     let t : same_piece pl.piece.id x.piece.id ≡ false = all_here (λ (y : Piece). same_piece y.id x.piece.id ≡ false) (map piece_of before) (map piece_of after) pl.piece others in
-    let n : b + length x.piece.ops + keys_in before ≡ b + (length x.piece.ops + keys_in before) = omega arith in (
-      ap (λ (i : Bool). cond i (Some x.piece) (piece_at (map piece_of (before ++ pl ∷ after)) pl.piece.id)) t ∙ more.0,
-      ap (λ (i : Bool). cond i (keyed b x.setting) (settings_from (b + length x.piece.ops) (before ++ pl ∷ after) other pl.piece.id)) t ∙ more.1 ∙ ap (λ (k : ℕ). keyed k pl.setting) n,
-    )
+    let n : b + length x.piece.ops + keys_in before ≡ b + (length x.piece.ops + keys_in before) = omega arith in record {
+      at = ap (λ (i : Bool). cond i (Some x.piece) (piece_at (map piece_of (before ++ pl ∷ after)) pl.piece.id)) t ∙ more.at;
+      setting = ap (λ (i : Bool). cond i (keyed b x.setting) (settings_from (b + length x.piece.ops) (before ++ pl ∷ after) other pl.piece.id)) t ∙ more.setting ∙ ap (λ (k : ℕ). keyed k pl.setting) n;
+      begins = ap (λ (i : Bool). cond i x.at (begin_in (before ++ pl ∷ after) pl.piece.id)) t ∙ more.begins;
+    }
 
 -- ---- where a jump goes
 

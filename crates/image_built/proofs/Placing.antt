@@ -1,65 +1,143 @@
 -- A piece of an image, and all that is known of it.
-use Rattle.std.proofs.Common.{◌≡◌, ℕ, suc, ◌+◌, ◌*◌, ◌<◌, ◌≤◌, ◌^◌, ◌↔◌, List, [], ◌∷◌, ◌++◌, length, map, take, append_assoc, refl, sym, ap, ◌∙◌, subst, arith, Some}
+use Rattle.std.proofs.Common.{◌≡◌, ℕ, suc, ◌+◌, ◌*◌, ◌<◌, ◌≤◌, ◌^◌, ◌↔◌, List, [], ◌∷◌, ◌++◌, length, map, take, append_assoc, refl, sym, ap, ◌∙◌, subst, arith, Some, Bool, true, false, cond, Option}
 use Rattle.std.specs.Prelude.{slice_get, IsTrue}
-use Rattle.std.specs.List.{All, AllByRecursion}
+use Rattle.std.specs.List.{All, AllByRecursion, AllZip}
 use Rattle.trace_ops.specs.declared.trace.TraceSet.{TraceSet}
 use Rattle.trace_ops.specs.declared.piece.PieceId.{PieceId}
 use Rattle.trace_ops.specs.declared.piece.OptOp.{OptOp}
 use Rattle.trace_ops.specs.declared.piece.OptOp.TheVariants as opt
 use Rattle.trace_ops.specs.declared.piece.Piece.{Piece}
-use Rattle.trace_ops.specs.Pieces.{is_end}
+use Rattle.trace_ops.specs.declared.trace.BoxId.{BoxId}
+use Rattle.trace_ops.specs.InRange.{IsTableInRange}
+use Rattle.trace_ops.specs.Pieces.{is_end, FitsLabel}
 use Rattle.trace_ops.specs.Sound.{IsSound}
-use Rattle.opt_meaning.specs.Pieces.{piece_at, ops_of, ops_at}
+use Rattle.trace_meaning.specs.declared.value.Value.{Value}
+use Rattle.trace_meaning.specs.World.{World}
+use Rattle.opt_meaning.specs.Step.{opt_begin}
+use Rattle.opt_meaning.specs.Pieces.{piece_at, ops_of, ops_at, same_piece}
 use Rattle.guard_exit.specs.Codes.{common_code}
 use Rattle.asm_select.specs.declared.told.Told.TheVariants as tell
-use Rattle.asm_select.specs.Slots.{Slot, puts, sizes_of}
+use Rattle.target_base.specs.declared.place.Place.{Place}
+use Rattle.linear_scan.specs.Placing.{AreDistinct}
+use Rattle.asm_select.specs.Slots.{Slot, Jumps, HaveRows, puts, sizes_of}
+use Rattle.asm_select.specs.Exited.{shown_by}
 use Rattle.asm_select.specs.Chosen.{Setting, all_code}
 use Rattle.asm_select.specs.Valued.{MayHold}
 use Rattle.asm_select.specs.Reached.{AreApart}
 use Rattle.asm_select.specs.Ended.{TableServes}
 use Rattle.asm_select.specs.Asked.{AreSafe, AreChosen}
 use Rattle.code_layout.specs.Chosen.{ChosenJumps}
-use Rattle.bridge_patch.specs.Pieces.{Placed, start_of, stubs_of, end_of, stub_of, exits_in, stubs_from, spelled, IsChosen, AreLaid, AllLead, start_in}
+use Rattle.bridge_patch.specs.Pieces.{Placed, start_of, stubs_of, end_of, stub_of, exits_in, stubs_from, spelled, AreLaid, label_at}
+use Rattle.bridge_patch.specs.Attached.{AllLeadNow, entry_code, IsMoved, guard_of}
+use Rattle.bridge_patch.specs.Bridged.{bridge_on}
 use Rattle.bridge_patch.specs.Image.{label_in, KeepsItsGuard}
 use Rattle.image_runs.specs.Selection.{joined, code_of}
 use Rattle.image_runs.specs.Selection as runs
 use Rattle.image_runs.specs.Image.{HasSlots}
+use Rattle.image_model.specs.Ready.{AreKinded, StaysReady}
+use Rattle.image_model.specs.Staying.{SoundPiecesStayReady}
 use Rattle.image_model.specs.Laws.{codes_from, closes, IsSelected}
-use Rattle.image_built.specs.Built.{keyed, slots_of, slots_from, all_slots, run_of, settings_from}
-use Rattle.image_built.specs.Laws.{StayReady}
+use Rattle.image_built.specs.Built.{keyed, slots_of, slots_from, all_slots, run_of}
 use Rattle.image_built.proofs.Leading.{sizes-append, sizes-puts}
 use Rattle.image_built.proofs.Choosing.{joined-codes, chosen_first}
 use Rattle.image_built.proofs.Splitting.{keys_in, body_size, slots_end, stubs_room}
 use Rattle.image_built.proofs.Locating.{AreIn, in_front, slots_around, stands_in, front_long}
-use Rattle.image_built.proofs.Naming.{TellsNames, AreOnce, piece_of, all_here, map-around, get_middle, at_split}
+use Rattle.image_built.proofs.Naming.{TellsNames, AreOnce, piece_of, all_here, map-around, get_middle, at_split, some_is}
 use Rattle.image_built.proofs.Rowing.{take_front}
 
--- pieces in the code, as they are compiled
-pub record Made (set : TraceSet) (whole ps : List Piece) (placed : List Placed) : Type 0 where
+-- each piece stays ready from values of the kinds of its label
+abbrev pub StayReady : TraceSet → List Piece → Type 0
+StayReady set ps =
+    (q : PieceId) (p : Piece) (vs : List Value) (w : World) → piece_at ps q ≡ Some p → AreKinded set.table (map (λ (b : BoxId). Some b.kind) p.label) vs w → StaysReady set.table p.ops (opt_begin p.label vs w)
+
+-- the piece of a name is one of them
+named_if : (P : Piece → Type 0) (x p : Piece) (o : Option Piece) (b : Bool) → P x → (o ≡ Some p → P p) → cond b (Some x) o ≡ Some p → P p
+named_if P x p o true one more e = subst P (some_is e) one
+named_if P x p o false one more e = more e
+
+pub each_named : (P : Piece → Type 0) (ps : List Piece) (q : PieceId) (p : Piece) → AllByRecursion P ps → piece_at ps q ≡ Some p → P p
+each_named P [] q p h e = absurd (cc)
+each_named P (x ∷ ps) q p h e = named_if P x p (piece_at ps q) (same_piece q x.id) h.0 (each_named P ps q p h.1) e
+
+-- a whole of pieces, among them those of bridges to come, the setting of each, and the bridges that are attached now
+pub record Setup : Type 0 where
+  pub pieces : List Piece
+  pub settings : PieceId → Setting
+  pub bridges : List ℕ
+
+-- how the instructions of a piece's operations are chosen
+pub record IsSet (set : TraceSet) (pl : Placed) : Type 0 where
+  pub table : pl.setting.table ≡ set.table
+  pub serves : TableServes pl.setting.table
+  pub hold : (b : ℕ) → MayHold (pl.setting.at b)
+  pub apart : AreApart pl.setting.at pl.piece.ops
+  pub safe : AreSafe pl.setting.at pl.piece.ops
+  pub chosen : AreChosen pl.setting 0 tell.Nothing pl.piece.ops
+
+-- a piece is sound, wherever it jumps
+pub record IsLawful (set : TraceSet) (p : Piece) : Type 0 where
+  pub label_of : PieceId → Option (List BoxId)
+  pub sound : IsSound set label_of p
+
+-- what stands in front of a piece has rows
+abbrev pub HasMoves : Placed → Type 0
+HasMoves pl = (by : Jumps) → HaveRows by (puts pl.front)
+
+-- the places of the boxes that a guard shows
+abbrev pub shown_at : Placed → OptOp → List Place
+shown_at pl op = map (λ (b : BoxId). pl.setting.at b.number) (shown_by op)
+
+-- A guard's bridge has a piece of the same half, in front of which the words that the guard shows are moved to the label's places.
+pub record IsBridged (set : TraceSet) (placed : List Placed) (pl : Placed) (op : OptOp) (b : ℕ) : Type 0 where
+  pub before : List Placed
+  pub to : Placed
+  pub after : List Placed
+  pub here : placed ≡ before ++ to ∷ after
+  pub named : to.piece.id ≡ record { trace = b; half = pl.piece.id.half }
+  pub front : to.front ≡ entry_code (shown_at pl op) (label_at to)
+  pub moved : AllZip (IsMoved (shown_at pl op)) (shown_at pl op) (label_at to)
+  pub distinct : AreDistinct (label_at to)
+  pub kinds : map (λ (x : BoxId). x.kind) to.piece.label ≡ map (λ (x : BoxId). x.kind) (shown_by op)
+
+-- so does each guard that has one
+abbrev pub AreBridged : TraceSet → List ℕ → List Placed → Type 0
+AreBridged set bs placed =
+    (before after : List Placed) (pl : Placed) (done rest : List OptOp) (op : OptOp) (n b : ℕ)
+    → placed ≡ before ++ pl ∷ after → pl.piece.ops ≡ done ++ op ∷ rest → guard_of op ≡ Some n → bridge_on set.traces bs pl.piece.id.trace n ≡ Some b → IsBridged set placed pl op b
+
+pub stay_ready : SoundPiecesStayReady → (set : TraceSet) (ps : List Piece) → IsTableInRange set.table → AllByRecursion (IsLawful set) ps → StayReady set ps
+stay_ready stays set ps range sound q p vs w e h = (let z = each_named (IsLawful set) ps q p sound e in stays set z.label_of p vs w range z.sound h)
+
+-- pieces in the code, as they are compiled or attached
+pub record Made (set : TraceSet) (whole : Setup) (ps : List Piece) (placed : List Placed) : Type 0 where
   pub names : TellsNames
   pub jumps : ChosenJumps
   pub pieces : map piece_of placed ≡ ps
   pub end : ℕ
   pub last : ℕ
   pub laid : AreLaid (length (spelled common_code)) 0 placed end last
-  pub chosen : AllByRecursion (IsChosen set) placed
-  pub leads : AllByRecursion (AllLead (start_in placed)) placed
+  pub chosen : AllByRecursion (IsSet set) placed
+  pub leads : AllByRecursion (AllLeadNow set.traces whole.bridges placed) placed
   pub short : sizes_of (all_slots placed) < 2 ^ 31
   pub once : AreOnce ps
-  pub sound : AllByRecursion (IsSound set (label_in ps)) ps
+  pub sound : AllByRecursion (IsLawful set) ps
+  pub fits : AllByRecursion (λ (p : Piece). All (FitsLabel (label_in ps)) p.ops) ps
   pub guards : AllByRecursion (λ (p : Piece). All KeepsItsGuard p.ops) ps
   pub ready : StayReady set ps
-  -- the whole of the pieces has these as they are
-  pub within : (q : PieceId) (p : Piece) → piece_at ps q ≡ Some p → ops_at whole q ≡ p.ops
+  pub fronts : AllByRecursion HasMoves placed
+  pub bridged : AreBridged set whole.bridges placed
+  -- the whole of the pieces has these as they are, and so have the settings
+  pub within : (q : PieceId) (p : Piece) → piece_at ps q ≡ Some p → ops_at whole.pieces q ≡ p.ops
+  pub settled : (before after : List Placed) (pl : Placed) → placed ≡ before ++ pl ∷ after → whole.settings pl.piece.id ≡ keyed (keys_in before) pl.setting
 
-chosen_codes : (set : TraceSet) (pls : List Placed) → AllByRecursion (IsChosen set) pls → AllByRecursion (λ (pl : Placed). AreChosen pl.setting 0 tell.Nothing pl.piece.ops) pls
+chosen_codes : (set : TraceSet) (pls : List Placed) → AllByRecursion (IsSet set) pls → AllByRecursion (λ (pl : Placed). AreChosen pl.setting 0 tell.Nothing pl.piece.ops) pls
 chosen_codes set [] h = tt
 chosen_codes set (pl ∷ pls) h = (h.0.chosen, chosen_codes set pls h.1)
 
-pub few_last : (set : TraceSet) (whole ps : List Piece) (placed : List Placed) (m : Made set whole ps placed) → m.last ≤ 2 ^ 31
+pub few_last : (set : TraceSet) (whole : Setup) (ps : List Piece) (placed : List Placed) (m : Made set whole ps placed) → m.last ≤ 2 ^ 31
 few_last set whole ps placed m = omega (arith, stubs_room (length (spelled common_code)) 0 m.end m.last 0 placed m.laid, m.short, sizes-append (puts common_code) (slots_from 0 placed))
 
-pub are_in : (set : TraceSet) (whole ps : List Piece) (placed : List Placed) → Made set whole ps placed → AreIn placed
+pub are_in : (set : TraceSet) (whole : Setup) (ps : List Piece) (placed : List Placed) → Made set whole ps placed → AreIn placed
 are_in set whole ps placed m = record {
   end = m.end;
   last = m.last;
@@ -70,29 +148,30 @@ are_in set whole ps placed m = record {
 }
 
 -- what is known of one of them
-pub record Spot (set : TraceSet) (whole ps : List Piece) (settings : PieceId → Setting) (b : ℕ) (pl : Placed) : Type 0 where
+pub record Spot (set : TraceSet) (whole : Setup) (ps : List Piece) (settings : PieceId → Setting) (b : ℕ) (pl : Placed) : Type 0 where
   pub at : piece_at ps pl.piece.id ≡ Some pl.piece
   pub ops : ops_at ps pl.piece.id ≡ pl.piece.ops
-  pub wholly : ops_at whole pl.piece.id ≡ pl.piece.ops
+  pub wholly : ops_at whole.pieces pl.piece.id ≡ pl.piece.ops
   pub setting : settings pl.piece.id ≡ keyed b pl.setting
-  pub chosen : IsChosen set pl
-  pub sound : IsSound set (label_in ps) pl.piece
+  pub chosen : IsSet set pl
+  pub lawful : IsLawful set pl.piece
+  pub fits : All (FitsLabel (label_in ps)) pl.piece.ops
   pub guards : All KeepsItsGuard pl.piece.ops
 
-pub spot : (set : TraceSet) (whole ps : List Piece) (other : PieceId → Setting) (before after : List Placed) (pl : Placed) → Made set whole ps (before ++ pl ∷ after) → Spot set whole ps (settings_from 0 (before ++ pl ∷ after) other) (keys_in before) pl
-spot set whole ps other before after pl m =
-    let all = before ++ pl ∷ after in
-    let here = at_split m.names 0 other before after pl (subst AreOnce (sym m.pieces) m.once) in
-    let at : piece_at ps pl.piece.id ≡ Some pl.piece = subst (λ (l : List Piece). piece_at l pl.piece.id ≡ Some pl.piece) m.pieces here.0 in
+pub spot : (set : TraceSet) (whole : Setup) (ps : List Piece) (before after : List Placed) (pl : Placed) → Made set whole ps (before ++ pl ∷ after) → Spot set whole ps whole.settings (keys_in before) pl
+spot set whole ps before after pl m =
+    let here = at_split m.names 0 whole.settings before after pl (subst AreOnce (sym m.pieces) m.once) in
+    let at : piece_at ps pl.piece.id ≡ Some pl.piece = subst (λ (l : List Piece). piece_at l pl.piece.id ≡ Some pl.piece) m.pieces here.at in
     let around : map piece_of before ++ pl.piece ∷ map piece_of after ≡ ps = sym (map-around piece_of before after pl) ∙ m.pieces in
-    let z : 0 + keys_in before ≡ keys_in before = omega arith in record {
+    let of = λ (P : Piece → Type 0) (h : AllByRecursion P ps). all_here P (map piece_of before) (map piece_of after) pl.piece (subst (AllByRecursion P) (sym around) h) in record {
       at = at;
       ops = ap ops_of at;
       wholly = m.within pl.piece.id pl.piece at;
-      setting = here.1 ∙ ap (λ (k : ℕ). keyed k pl.setting) z;
-      chosen = all_here (IsChosen set) before after pl m.chosen;
-      sound = all_here (IsSound set (label_in ps)) (map piece_of before) (map piece_of after) pl.piece (subst (AllByRecursion (IsSound set (label_in ps))) (sym around) m.sound);
-      guards = all_here (λ (p : Piece). All KeepsItsGuard p.ops) (map piece_of before) (map piece_of after) pl.piece (subst (AllByRecursion (λ (p : Piece). All KeepsItsGuard p.ops)) (sym around) m.guards);
+      setting = m.settled before after pl refl;
+      chosen = all_here (IsSet set) before after pl m.chosen;
+      lawful = of (IsLawful set) m.sound;
+      fits = of (λ (p : Piece). All (FitsLabel (label_in ps)) p.ops) m.fits;
+      guards = of (λ (p : Piece). All KeepsItsGuard p.ops) m.guards;
     }
 
 -- ---- where it ends
@@ -144,11 +223,11 @@ end_last ops done (x ∷ rest) op ends e h =
 pub start_same : (b : ℕ) (pl : Placed) → runs.start_of (run_of b pl) ≡ start_of pl
 start_same b pl = ap (λ (n : ℕ). pl.at + n) (sizes-puts pl.front)
 
-pub selected : (set : TraceSet) (whole ps : List Piece) (settings : PieceId → Setting) (b : ℕ) (pl : Placed) → Spot set whole ps settings b pl → end_of pl < 2 ^ 31 → IsSelected set whole ps settings (run_of b pl)
+pub selected : (set : TraceSet) (whole : Setup) (ps : List Piece) (settings : PieceId → Setting) (b : ℕ) (pl : Placed) → Spot set whole ps settings b pl → end_of pl < 2 ^ 31 → IsSelected set whole.pieces ps settings (run_of b pl)
 selected set whole ps settings b pl s short =
     let q = pl.piece.id in
     let st = keyed b pl.setting in
-    let found = some_op pl.piece.ops s.sound.formed.has_an_end in record {
+    let found = some_op pl.piece.ops s.lawful.sound.formed.has_an_end in record {
       same = s.ops ∙ sym s.wholly;
       table = ap (λ (c : Setting). c.table) s.setting ∙ s.chosen.table;
       serves = subst (λ (c : Setting). TableServes c.table) (sym s.setting) s.chosen.serves;
@@ -159,7 +238,7 @@ selected set whole ps settings b pl s short =
       codes = ap (λ (c : Setting). codes_from c b tell.Nothing pl.piece.ops) (sym s.setting) ∙ ap (λ (l : List OptOp). codes_from (settings q) b tell.Nothing l) (sym s.wholly);
       small = omega (arith, start_same b pl, ap sizes_of (joined-codes st b tell.Nothing pl.piece.ops), body_size b pl, short);
       some = (found.0, found.1, s.wholly ∙ found.2);
-      closed = λ done op e. end_closes pl.piece.ops done op s.sound.formed.ends_once (sym s.wholly ∙ e);
+      closed = λ done op e. end_closes pl.piece.ops done op s.lawful.sound.formed.ends_once (sym s.wholly ∙ e);
     }
 
 -- ---- its slots stand

@@ -1,5 +1,5 @@
 -- Where the jumps of an image lead.
-use Rattle.std.proofs.Common.{◌≡◌, inl, inr, ℕ, ◌+◌, ◌*◌, ◌<◌, ◌^◌, true, List, [], ◌∷◌, ◌++◌, length, map, append_assoc, refl, sym, ap, ◌∙◌, subst, arith, Option, Some, ℤ, pos}
+use Rattle.std.proofs.Common.{◌≡◌, inl, inr, ℕ, ◌+◌, ◌*◌, ◌<◌, ◌^◌, true, List, [], ◌∷◌, ◌++◌, length, map, append_assoc, refl, sym, ap, ◌∙◌, subst, arith, Option, Some, None, ℤ, pos}
 use Rattle.std.specs.Prelude.{slice_get}
 use Rattle.std.specs.List.{AllZip, Contains}
 use Rattle.lists.specs.Has.{Has}
@@ -27,7 +27,9 @@ use Rattle.asm_select.specs.Slots.{Slot, Jumps, puts, sizes_of, size_of}
 use Rattle.asm_select.specs.Chosen.{Setting, all_code}
 use Rattle.asm_select.specs.Laid.{has_stub}
 use Rattle.code_layout.specs.Leading.{way}
-use Rattle.bridge_patch.specs.Pieces.{Placed, stubs_of, stub_of, exit_of, exits_in, label_places, start_in, AllLead}
+use Rattle.bridge_patch.specs.Pieces.{Placed, stubs_of, stub_of, exit_of, exits_in, start_in}
+use Rattle.bridge_patch.specs.Attached.{begin_in, behind_guard, guard_of, AllLeadNow}
+use Rattle.bridge_patch.specs.Bridged.{bridge_on}
 use Rattle.bridge_patch.specs.Image.{label_in}
 use Rattle.image_runs.specs.Session.{Calls, Host}
 use Rattle.image_runs.specs.Reached.{IsJumpOf}
@@ -37,79 +39,110 @@ use Rattle.image_runs.specs.Image.{Image, HasSlots, Exits, ToStub, ToPiece, move
 use Rattle.image_model.specs.Ready.{kinds_left, AreKinded, StaysReady}
 use Rattle.image_model.specs.Modelled.{LeftAt, model_of}
 use Rattle.image_model.specs.Laws.{StubsExit, JumpsHold}
-use Rattle.image_built.specs.Built.{keyed, slots_from, all_slots, run_of, runs_from, by_of, to_all, image_of, settings_from}
-use Rattle.image_built.specs.Laws.{StayReady}
+use Rattle.image_built.specs.Built.{keyed, slots_from, all_slots, run_of, runs_from, by_of, to_all, image_of}
 use Rattle.image_built.proofs.Leading.{KeysAre, keys_weaker, sizes-append, sizes-puts}
 use Rattle.image_built.proofs.Aiming.{Aims, aims, Low, lead_at, target_is}
 use Rattle.image_built.proofs.Choosing.{is_off}
 use Rattle.image_built.proofs.Stubbing.{stub_at, stub_size, exits-append, exits_one}
 use Rattle.image_built.proofs.Splitting.{keys_in, by_key-split, body_size}
 use Rattle.image_built.proofs.Locating.{Located, all_located, AreIn, all_once, in_front, slots_around, stands_in, front_long}
-use Rattle.image_built.proofs.Naming.{some_is, all_here, all_at, Found, found, Reaches, reaches, last_jump}
+use Rattle.image_built.proofs.Naming.{AreOnce, piece_of, at_split, some_is, all_here, all_at, Found, found, Reaches, reaches, last_jump}
 use Rattle.image_built.proofs.Rowing.{contains_of, exit_at}
-use Rattle.image_built.proofs.Placing.{Made, are_in, Spot, spot, end_within, within_ops, op_at, end_last, start_same, stub_place}
+use Rattle.image_built.proofs.Placing.{StayReady, Setup, IsBridged, Made, are_in, Spot, spot, end_within, within_ops, op_at, end_last, start_same, stub_place}
 
 -- ---- below 2^31
 
-abbrev pub Leads : List Placed → Placed → Type 0
-Leads placed pl = AllLead (start_in placed) pl
+abbrev pub Leads : TraceSet → List ℕ → List Placed → Placed → Type 0
+Leads set bs placed pl = AllLeadNow set.traces bs placed pl
 
 -- the piece to which a jump goes
-pub record LeadsOn (set : TraceSet) (whole ps : List Piece) (placed : List Placed) (other : PieceId → Setting) (args : List Arg) (to : PieceId) : Type 0 where
+pub record LeadsOn (set : TraceSet) (whole : Setup) (ps : List Piece) (placed : List Placed) (args : List Arg) (to : PieceId) : Type 0 where
   pub piece : Piece
   pub kinds : map kind_of_arg args ≡ map (λ (b : BoxId). Some b.kind) piece.label
   pub long : length args ≡ length piece.label
-  pub there : Found placed 0 other to piece
+  pub there : Found placed to piece
   pub made : Made set whole ps (there.before ++ there.pl ∷ there.after)
 
-pub leads_on : (set : TraceSet) (whole ps : List Piece) (placed : List Placed) (other : PieceId → Setting) (args : List Arg) (to : PieceId) → Made set whole ps placed → Reaches ps args to → LeadsOn set whole ps placed other args to
-leads_on set whole ps placed other args to m r =
-    let f = found m.names placed 0 other to r.piece (subst (λ (l : List Piece). piece_at l to ≡ Some r.piece) (sym m.pieces) r.at) in
+pub leads_on : (set : TraceSet) (whole : Setup) (ps : List Piece) (placed : List Placed) (args : List Arg) (to : PieceId) → Made set whole ps placed → Reaches ps args to → LeadsOn set whole ps placed args to
+leads_on set whole ps placed args to m r =
+    let f = found m.names placed to r.piece (subst (λ (l : List Piece). piece_at l to ≡ Some r.piece) (sym m.pieces) r.at) in
     record { piece = r.piece; kinds = r.kinds; long = r.long; there = f; made = subst (Made set whole ps) f.here m }
 
-start_low : (set : TraceSet) (whole ps : List Piece) (placed : List Placed) (other : PieceId → Setting) (args : List Arg) (to : PieceId) → Made set whole ps placed → LeadsOn set whole ps placed other args to → start_in placed to < 2 ^ 31
-start_low set whole ps placed other args to m z =
+start_low : (set : TraceSet) (whole : Setup) (ps : List Piece) (placed : List Placed) (args : List Arg) (to : PieceId) → Made set whole ps placed → LeadsOn set whole ps placed args to → start_in placed to < 2 ^ 31
+start_low set whole ps placed args to m z =
     let f = z.there in
     let n = end_within f.before f.after f.pl (are_in set whole ps (f.before ++ f.pl ∷ f.after) z.made) in
     omega (arith, f.start, n, z.made.short)
 
-stub_low : (set : TraceSet) (whole ps : List Piece) (before after : List Placed) (pl : Placed) (done rest : List OptOp) (op : OptOp) → Made set whole ps (before ++ pl ∷ after) → pl.piece.ops ≡ done ++ op ∷ rest → stub_of pl (length done) < 2 ^ 31
+stub_low : (set : TraceSet) (whole : Setup) (ps : List Piece) (before after : List Placed) (pl : Placed) (done rest : List OptOp) (op : OptOp) → Made set whole ps (before ++ pl ∷ after) → pl.piece.ops ≡ done ++ op ∷ rest → stub_of pl (length done) < 2 ^ 31
 stub_low set whole ps before after pl done rest op m e =
     omega (arith, stub_place pl done rest op e, end_within before after pl (are_in set whole ps (before ++ pl ∷ after) m), m.short, ap exits_in e, exits-append done (op ∷ rest))
 
-fits : (set : TraceSet) (whole ps : List Piece) (settings : PieceId → Setting) (b : ℕ) (pl : Placed) (done rest : List OptOp) (to : PieceId) (args : List Arg) → Spot set whole ps settings b pl → pl.piece.ops ≡ done ++ opt.Jump to args ∷ rest → Reaches ps args to
-fits set whole ps settings b pl done rest to args s e = reaches ps args to (all_at (FitsLabel (label_in ps)) pl.piece.ops (length done) (opt.Jump to args) s.sound.jumps_fit (op_at pl.piece.ops done rest (opt.Jump to args) e))
+fits : (set : TraceSet) (whole : Setup) (ps : List Piece) (settings : PieceId → Setting) (b : ℕ) (pl : Placed) (done rest : List OptOp) (to : PieceId) (args : List Arg) → Spot set whole ps settings b pl → pl.piece.ops ≡ done ++ opt.Jump to args ∷ rest → Reaches ps args to
+fits set whole ps settings b pl done rest to args s e = reaches ps args to (all_at (FitsLabel (label_in ps)) pl.piece.ops (length done) (opt.Jump to args) s.fits (op_at pl.piece.ops done rest (opt.Jump to args) e))
 
-pub to_low : (set : TraceSet) (whole ps : List Piece) (other : PieceId → Setting) (before after : List Placed) (pl : Placed) (done rest : List OptOp) (op : OptOp) → Made set whole ps (before ++ pl ∷ after) → pl.piece.ops ≡ done ++ op ∷ rest → is_off op ≡ true → pl.to (length done) < 2 ^ 31
-to_low set whole ps other before after pl done rest (opt.Plain operation r args d) m e off = absurd (cc)
-to_low set whole ps other before after pl done rest (opt.Guard operation args n snap) m e off =
-    omega (arith, all_here (Leads (before ++ pl ∷ after)) before after pl m.leads done rest (opt.Guard operation args n snap) e, stub_low set whole ps before after pl done rest (opt.Guard operation args n snap) m e)
-to_low set whole ps other before after pl done rest (opt.Exit n snap) m e off =
-    omega (arith, all_here (Leads (before ++ pl ∷ after)) before after pl m.leads done rest (opt.Exit n snap) e, stub_low set whole ps before after pl done rest (opt.Exit n snap) m e)
-to_low set whole ps other before after pl done rest (opt.Jump to args) m e off =
+-- a guard leads to its stub, or in front of its bridge's piece
+pub data GuardTo (set : TraceSet) (bs : List ℕ) (placed : List Placed) (pl : Placed) (op : OptOp) (k n : ℕ) : Type 0 where
+  Stubbed : bridge_on set.traces bs pl.piece.id.trace n ≡ None → pl.to k ≡ stub_of pl k → GuardTo set bs placed pl op k n
+  Bridged : (b : ℕ) → bridge_on set.traces bs pl.piece.id.trace n ≡ Some b → (z : IsBridged set placed pl op b) → pl.to k ≡ z.to.at → GuardTo set bs placed pl op k n
+
+-- where the piece of a bridge begins
+bridge_begins : (set : TraceSet) (whole : Setup) (ps : List Piece) (placed : List Placed) (pl : Placed) (op : OptOp) (b : ℕ) → Made set whole ps placed → (z : IsBridged set placed pl op b) → begin_in placed (record { trace = b; half = pl.piece.id.half }) ≡ z.to.at
+bridge_begins set whole ps placed pl op b m z =
+    let once = subst (λ (l : List Placed). AreOnce (map piece_of l)) z.here (subst AreOnce (sym m.pieces) m.once) in
+    let here = at_split m.names 0 whole.settings z.before z.after z.to once in
+    ap (λ (l : List Placed). begin_in l (record { trace = b; half = pl.piece.id.half })) z.here ∙ ap (begin_in (z.before ++ z.to ∷ z.after)) (sym z.named) ∙ here.begins
+
+guard_by : (set : TraceSet) (whole : Setup) (ps : List Piece) (before after : List Placed) (pl : Placed) (done rest : List OptOp) (op : OptOp) (n : ℕ) (o : Option ℕ) → Made set whole ps (before ++ pl ∷ after) → pl.piece.ops ≡ done ++ op ∷ rest → guard_of op ≡ Some n → bridge_on set.traces whole.bridges pl.piece.id.trace n ≡ o
+    → pl.to (length done) ≡ behind_guard (stub_of pl (length done)) (before ++ pl ∷ after) pl.piece.id.half o → GuardTo set whole.bridges (before ++ pl ∷ after) pl op (length done) n
+guard_by set whole ps before after pl done rest op n None m e g is to = Stubbed is to
+guard_by set whole ps before after pl done rest op n (Some b) m e g is to =
+    let z = m.bridged before after pl done rest op n b refl e g is in
+    Bridged b is z (to ∙ bridge_begins set whole ps (before ++ pl ∷ after) pl op b m z)
+
+pub guard_leads : (set : TraceSet) (whole : Setup) (ps : List Piece) (before after : List Placed) (pl : Placed) (done rest : List OptOp) (op : OptOp) (n : ℕ) → Made set whole ps (before ++ pl ∷ after) → pl.piece.ops ≡ done ++ op ∷ rest → guard_of op ≡ Some n
+    → pl.to (length done) ≡ behind_guard (stub_of pl (length done)) (before ++ pl ∷ after) pl.piece.id.half (bridge_on set.traces whole.bridges pl.piece.id.trace n) → GuardTo set whole.bridges (before ++ pl ∷ after) pl op (length done) n
+guard_leads set whole ps before after pl done rest op n m e g to = guard_by set whole ps before after pl done rest op n (bridge_on set.traces whole.bridges pl.piece.id.trace n) m e g refl to
+
+pub bridge_low : (set : TraceSet) (whole : Setup) (ps : List Piece) (placed : List Placed) (pl : Placed) (op : OptOp) (b : ℕ) → Made set whole ps placed → (z : IsBridged set placed pl op b) → z.to.at < 2 ^ 31
+bridge_low set whole ps placed pl op b m z =
+    let made = subst (Made set whole ps) z.here m in
+    omega (arith, end_within z.before z.after z.to (are_in set whole ps (z.before ++ z.to ∷ z.after) made), made.short)
+
+guard_low : (set : TraceSet) (whole : Setup) (ps : List Piece) (before after : List Placed) (pl : Placed) (done rest : List OptOp) (op : OptOp) (n : ℕ) → Made set whole ps (before ++ pl ∷ after) → pl.piece.ops ≡ done ++ op ∷ rest → GuardTo set whole.bridges (before ++ pl ∷ after) pl op (length done) n → pl.to (length done) < 2 ^ 31
+guard_low set whole ps before after pl done rest op n m e (Stubbed is to) = omega (arith, to, stub_low set whole ps before after pl done rest op m e)
+guard_low set whole ps before after pl done rest op n m e (Bridged b is z to) = omega (arith, to, bridge_low set whole ps (before ++ pl ∷ after) pl op b m z)
+
+pub to_low : (set : TraceSet) (whole : Setup) (ps : List Piece) (before after : List Placed) (pl : Placed) (done rest : List OptOp) (op : OptOp) → Made set whole ps (before ++ pl ∷ after) → pl.piece.ops ≡ done ++ op ∷ rest → is_off op ≡ true → pl.to (length done) < 2 ^ 31
+to_low set whole ps before after pl done rest (opt.Plain operation r args d) m e off = absurd (cc)
+to_low set whole ps before after pl done rest (opt.Guard operation args n snap) m e off =
+    guard_low set whole ps before after pl done rest (opt.Guard operation args n snap) n m e (guard_leads set whole ps before after pl done rest (opt.Guard operation args n snap) n m e refl (all_here (Leads set whole.bridges (before ++ pl ∷ after)) before after pl m.leads done rest (opt.Guard operation args n snap) e))
+to_low set whole ps before after pl done rest (opt.Exit n snap) m e off =
+    guard_low set whole ps before after pl done rest (opt.Exit n snap) n m e (guard_leads set whole ps before after pl done rest (opt.Exit n snap) n m e refl (all_here (Leads set whole.bridges (before ++ pl ∷ after)) before after pl m.leads done rest (opt.Exit n snap) e))
+to_low set whole ps before after pl done rest (opt.Jump to args) m e off =
     let all = before ++ pl ∷ after in
-    let s = spot set whole ps other before after pl m in
-    let goes = all_here (Leads all) before after pl m.leads done rest (opt.Jump to args) e in
-    let z = leads_on set whole ps all other args to m (fits set whole ps (settings_from 0 all other) (keys_in before) pl done rest to args s e) in
-    omega (arith, goes.0, start_low set whole ps all other args to m z)
-to_low set whole ps other before after pl done rest (opt.Finish value) m e off =
-    omega (arith, all_here (Leads (before ++ pl ∷ after)) before after pl m.leads done rest (opt.Finish value) e, stub_low set whole ps before after pl done rest (opt.Finish value) m e)
+    let s = spot set whole ps before after pl m in
+    let goes = all_here (Leads set whole.bridges all) before after pl m.leads done rest (opt.Jump to args) e in
+    let z = leads_on set whole ps all args to m (fits set whole ps whole.settings (keys_in before) pl done rest to args s e) in
+    omega (arith, goes.0, start_low set whole ps all args to m z)
+to_low set whole ps before after pl done rest (opt.Finish value) m e off =
+    omega (arith, all_here (Leads set whole.bridges (before ++ pl ∷ after)) before after pl m.leads done rest (opt.Finish value) e, stub_low set whole ps before after pl done rest (opt.Finish value) m e)
 
 -- the place to which operation k of a piece leads
 pub to_split : (before after : List Placed) (pl : Placed) (k : ℕ) → k < length pl.piece.ops → to_all (before ++ pl ∷ after) (keys_in before + k) ≡ pl.to k
 to_split before after pl k lt = by_key-split 0 (λ (x : Placed) (i : ℕ). x.to i) before after pl k lt
 
-low_located : (set : TraceSet) (whole ps : List Piece) (other : PieceId → Setting) (placed : List Placed) → Made set whole ps placed → (e : ℕ) → Located placed e → Low (to_all placed) e
-low_located set whole ps other placed m e h =
+low_located : (set : TraceSet) (whole : Setup) (ps : List Piece) (placed : List Placed) → Made set whole ps placed → (e : ℕ) → Located placed e → Low (to_all placed) e
+low_located set whole ps placed m e h =
     let made = subst (Made set whole ps) h.here m in
     let k = length h.done in
     let same : to_all placed e ≡ h.pl.to k = ap (λ (l : List Placed). to_all l e) h.here ∙ ap (to_all (h.before ++ h.pl ∷ h.after)) h.key ∙ to_split h.before h.after h.pl k (within_ops h.pl.piece.ops h.done h.rest h.op h.split) in
-    omega (arith, same, to_low set whole ps other h.before h.after h.pl h.done h.rest h.op made h.split h.off)
+    omega (arith, same, to_low set whole ps h.before h.after h.pl h.done h.rest h.op made h.split h.off)
 
-pub all_low : (set : TraceSet) (whole ps : List Piece) (other : PieceId → Setting) (placed : List Placed) → Made set whole ps placed → KeysAre (Low (to_all placed)) (all_slots placed)
-all_low set whole ps other placed m = keys_weaker (Located placed) (Low (to_all placed)) (all_slots placed) (low_located set whole ps other placed m) (all_located placed)
+pub all_low : (set : TraceSet) (whole : Setup) (ps : List Piece) (placed : List Placed) → Made set whole ps placed → KeysAre (Low (to_all placed)) (all_slots placed)
+all_low set whole ps placed m = keys_weaker (Located placed) (Low (to_all placed)) (all_slots placed) (low_located set whole ps placed m) (all_located placed)
 
-pub all_aim : (set : TraceSet) (whole ps : List Piece) (placed : List Placed) → Made set whole ps placed → Aims (by_of (to_all placed) 0 (all_slots placed)) (to_all placed) 0 (all_slots placed)
+pub all_aim : (set : TraceSet) (whole : Setup) (ps : List Piece) (placed : List Placed) → Made set whole ps placed → Aims (by_of (to_all placed) 0 (all_slots placed)) (to_all placed) 0 (all_slots placed)
 all_aim set whole ps placed m = aims (to_all placed) 0 (all_slots placed) (all_once placed (are_in set whole ps placed m))
 
 -- each jump leads to its place
@@ -168,11 +201,11 @@ common_target : (stub number : ℕ) → stub + 16 < 2 ^ 31 → number < 2 ^ 31 �
 common_target stub number low few =
     ap (λ (n : ℕ). target (0x40000000 + (stub + n)) (way (stub + 16) 0)) (stub_size (way (stub + 16) 0) number few) ∙ target_is (stub + 16) 0 low (omega arith)
 
-pub leads_stub : (host : Host) → StubsExit host → (set : TraceSet) (whole ps : List Piece) (other : PieceId → Setting) (before after : List Placed) (pl : Placed) (done rest : List OptOp) (op : OptOp) (front behind : List Slot) (x : Slot)
+pub leads_stub : (host : Host) → StubsExit host → (set : TraceSet) (whole : Setup) (ps : List Piece) (before after : List Placed) (pl : Placed) (done rest : List OptOp) (op : OptOp) (front behind : List Slot) (x : Slot)
     → Made set whole ps (before ++ pl ∷ after) → pl.piece.ops ≡ done ++ op ∷ rest → has_stub op ≡ true → is_off op ≡ true → pl.to (length done) ≡ stub_of pl (length done)
     → all_slots (before ++ pl ∷ after) ≡ front ++ x ∷ behind → IsJumpOf x (keys_in before + length done)
-    → ToStub (model_of host set whole (settings_from 0 (before ++ pl ∷ after) other) ps) (image_of (before ++ pl ∷ after)) (run_of (keys_in before) pl) (length done) (0x40000000 + (sizes_of front + size_of x))
-leads_stub host exit set whole ps other before after pl done rest op front behind x m e has off to split j =
+    → ToStub (model_of host set whole.pieces whole.settings ps) (image_of (before ++ pl ∷ after)) (run_of (keys_in before) pl) (length done) (0x40000000 + (sizes_of front + size_of x))
+leads_stub host exit set whole ps before after pl done rest op front behind x m e has off to split j =
     let all = before ++ pl ∷ after in
     let g = image_of all in
     let b = keys_in before in
@@ -181,7 +214,7 @@ leads_stub host exit set whole ps other before after pl done rest op front behin
     let lt = within_ops pl.piece.ops done rest op e in
     let stub = stub_of pl k in
     let number = exit_of pl k in
-    let settings = settings_from 0 all other in
+    let settings = whole.settings in
     let s = stands_in before after pl h in
     let more : exits_in pl.piece.ops ≡ exits_in done + (1 + exits_in rest) = ap exits_in e ∙ exits-append done (op ∷ rest) ∙ ap (λ (n : ℕ). exits_in done + n) (exits_one op rest has) in
     let room : stub + 16 < 2 ^ 31 = omega (arith, stub_place pl done rest op e, end_within before after pl h, m.short, more) in
@@ -189,13 +222,13 @@ leads_stub host exit set whole ps other before after pl done rest op front behin
     let low : to_all all (b + k) < 2 ^ 31 = omega (arith, to_split before after pl k lt, to, room) in
     let goes = goes_to g.by (to_all all) (all_slots all) front behind x (b + k) (all_aim set whole ps all m) split j low m.short in
     let there : to_all all (b + k) ≡ stub = to_split before after pl k lt ∙ to in
-    to_stub (model_of host set whole settings ps) g (run_of b pl) k (0x40000000 + (sizes_of front + size_of x)) stub number (way (stub + 16) 0)
+    to_stub (model_of host set whole.pieces settings ps) g (run_of b pl) k (0x40000000 + (sizes_of front + size_of x)) stub number (way (stub + 16) 0)
     (by_key-split 0 stub_of before after pl k lt)
     (by_key-split (pos 0) (λ (y : Placed) (n : ℕ). way (stub_of y n + 16) 0) before after pl k lt)
     (by_key-split 0 exit_of before after pl k lt)
     (goes ∙ ap (λ (n : ℕ). 0x40000000 + n) there)
     (stub_in before after pl done rest op h e has)
-    (λ l c n t left at. exit set whole ps settings pl.piece.id k l c stub 0 number n (way (stub + 16) 0) t left (omega (arith, few)) at (common_target stub number room few))
+    (λ l c n t left at. exit set whole.pieces ps settings pl.piece.id k l c stub 0 number n (way (stub + 16) 0) t left (omega (arith, few)) at (common_target stub number room few))
 
 -- ---- to pieces
 
@@ -212,60 +245,63 @@ run_there before after pl =
     let z : 0 + keys_in before ≡ keys_in before = omega arith in
     contains_of (runs_from 0 (before ++ pl ∷ after)) (run_of (keys_in before) pl) (subst (λ (k : ℕ). Has (runs_from 0 (before ++ pl ∷ after)) (run_of k pl)) z (runs_has 0 before after pl))
 
+at_places : (f : BoxId → Place) (label : List BoxId) → AllZip (λ (p : Place) (x : BoxId). f x ≡ p) (map f label) label
+at_places f [] = tt
+at_places f (b ∷ label) = (refl, at_places f label)
+
 -- the places to which a jump brings its arguments are those of the label
-places_meet : (set : TraceSet) (whole ps : List Piece) (settings : PieceId → Setting) (b c : ℕ) (pl to : Placed) (args : List Arg) → Spot set whole ps settings b pl → Spot set whole ps settings c to → pl.setting.to ≡ label_places (length args) → length args ≡ length to.piece.label
+places_meet : (set : TraceSet) (whole : Setup) (ps : List Piece) (settings : PieceId → Setting) (b c : ℕ) (pl to : Placed) → Spot set whole ps settings b pl → Spot set whole ps settings c to → pl.setting.to ≡ map (λ (x : BoxId). to.setting.at x.number) to.piece.label
     → AllZip (λ (p : Place) (x : BoxId). (settings to.piece.id).at x.number ≡ p) (settings pl.piece.id).to (label_at ps to.piece.id)
-places_meet set whole ps settings b c pl to args s z targets long =
+places_meet set whole ps settings b c pl to s z targets =
     let r = to.piece.id in
     let label : label_at ps r ≡ to.piece.label = ap label_of z.at in
-    let places : label_places (length to.piece.label) ≡ (settings pl.piece.id).to = ap label_places (sym long) ∙ sym targets ∙ ap (λ (d : Setting). d.to) (sym s.setting) in
+    let places : map (λ (x : BoxId). to.setting.at x.number) to.piece.label ≡ (settings pl.piece.id).to = sym targets ∙ ap (λ (d : Setting). d.to) (sym s.setting) in
     subst (λ (l : List BoxId). AllZip (λ (p : Place) (x : BoxId). (settings r).at x.number ≡ p) (settings pl.piece.id).to l) (sym label)
     (subst (λ (l : List Place). AllZip (λ (p : Place) (x : BoxId). (settings r).at x.number ≡ p) l to.piece.label) places
-    (subst (λ (d : Setting). AllZip (λ (p : Place) (x : BoxId). d.at x.number ≡ p) (label_places (length to.piece.label)) to.piece.label) (sym z.setting) z.chosen.label))
+    (subst (λ (d : Setting). AllZip (λ (p : Place) (x : BoxId). d.at x.number ≡ p) (map (λ (x : BoxId). to.setting.at x.number) to.piece.label) to.piece.label) (sym z.setting) (at_places (λ (x : BoxId). to.setting.at x.number) to.piece.label)))
 
 -- and the piece stays ready from them
-ready_there : (set : TraceSet) (whole ps : List Piece) (settings : PieceId → Setting) (b c : ℕ) (pl to : Placed) (done rest : List OptOp) (target : PieceId) (args : List Arg) (vs : List Value) (w : World) (calls : Calls) (t : State) → StayReady set ps → Spot set whole ps settings b pl → Spot set whole ps settings c to → pl.piece.ops ≡ done ++ opt.Jump target args ∷ rest
-    → map kind_of_arg args ≡ map (λ (x : BoxId). Some x.kind) to.piece.label → LeftAt (settings pl.piece.id) (ops_at whole pl.piece.id) (length done) (Jumping vs w) calls t → StaysReady (settings to.piece.id).table (ops_at whole to.piece.id) (begin_at ps to.piece.id vs w)
+ready_there : (set : TraceSet) (whole : Setup) (ps : List Piece) (settings : PieceId → Setting) (b c : ℕ) (pl to : Placed) (done rest : List OptOp) (target : PieceId) (args : List Arg) (vs : List Value) (w : World) (calls : Calls) (t : State) → StayReady set ps → Spot set whole ps settings b pl → Spot set whole ps settings c to → pl.piece.ops ≡ done ++ opt.Jump target args ∷ rest
+    → map kind_of_arg args ≡ map (λ (x : BoxId). Some x.kind) to.piece.label → LeftAt (settings pl.piece.id) (ops_at whole.pieces pl.piece.id) (length done) (Jumping vs w) calls t → StaysReady (settings to.piece.id).table (ops_at whole.pieces to.piece.id) (begin_at ps to.piece.id vs w)
 ready_there set whole ps settings b c pl to done rest target args vs w calls t ready s z e kinds (op, got, so, had) =
     let r = to.piece.id in
-    let known : slice_get (ops_at whole pl.piece.id) (length done) ≡ Some (opt.Jump target args) = ap (λ (l : List OptOp). slice_get l (length done)) s.wholly ∙ op_at pl.piece.ops done rest (opt.Jump target args) e in
+    let known : slice_get (ops_at whole.pieces pl.piece.id) (length done) ≡ Some (opt.Jump target args) = ap (λ (l : List OptOp). slice_get l (length done)) s.wholly ∙ op_at pl.piece.ops done rest (opt.Jump target args) e in
     let same : op ≡ opt.Jump target args = some_is (sym got ∙ known) in
     let from : (settings pl.piece.id).table ≡ set.table = ap (λ (d : Setting). d.table) s.setting ∙ s.chosen.table in
     let there : set.table ≡ (settings r).table = sym (ap (λ (d : Setting). d.table) z.setting ∙ z.chosen.table) in
     let left : AreKinded (settings pl.piece.id).table (map kind_of_arg args) vs w = subst (λ (o : OptOp). AreKinded (settings pl.piece.id).table (kinds_left o) vs w) same so.kinds in
     let passed : AreKinded set.table (map (λ (x : BoxId). Some x.kind) to.piece.label) vs w =
     subst (λ (ks : List (Option Kind)). AreKinded set.table ks vs w) kinds (subst (λ (d : Table). AreKinded d (map kind_of_arg args) vs w) from left) in
-    subst (λ (d : Table). StaysReady d (ops_at whole r) (begin_at ps r vs w)) there
+    subst (λ (d : Table). StaysReady d (ops_at whole.pieces r) (begin_at ps r vs w)) there
     (subst (λ (l : List OptOp). StaysReady set.table l (begin_at ps r vs w)) (sym z.wholly)
     (subst (λ (l : List BoxId). StaysReady set.table to.piece.ops (opt_begin l vs w)) (sym (ap label_of z.at)) (ready r to.piece vs w z.at passed)))
 
-pub leads_piece : (host : Host) → JumpsHold → (set : TraceSet) (whole ps : List Piece) (other : PieceId → Setting) (before after : List Placed) (pl : Placed) (done rest : List OptOp) (to : PieceId) (args : List Arg) (front behind : List Slot) (x : Slot)
+pub leads_piece : (host : Host) → JumpsHold → (set : TraceSet) (whole : Setup) (ps : List Piece) (before after : List Placed) (pl : Placed) (done rest : List OptOp) (to : PieceId) (args : List Arg) (front behind : List Slot) (x : Slot)
     → Made set whole ps (before ++ pl ∷ after) → pl.piece.ops ≡ done ++ opt.Jump to args ∷ rest → all_slots (before ++ pl ∷ after) ≡ front ++ x ∷ behind → IsJumpOf x (keys_in before + length done)
-    → ToPiece (model_of host set whole (settings_from 0 (before ++ pl ∷ after) other) ps) (image_of (before ++ pl ∷ after)) (run_of (keys_in before) pl) (length done) (0x40000000 + (sizes_of front + size_of x))
-leads_piece host hold set whole ps other before after pl done rest to args front behind x m e split j =
+    → ToPiece (model_of host set whole.pieces whole.settings ps) (image_of (before ++ pl ∷ after)) (run_of (keys_in before) pl) (length done) (0x40000000 + (sizes_of front + size_of x))
+leads_piece host hold set whole ps before after pl done rest to args front behind x m e split j =
     let all = before ++ pl ∷ after in
     let g = image_of all in
     let b = keys_in before in
     let k = length done in
-    let settings = settings_from 0 all other in
-    let s = spot set whole ps other before after pl m in
-    let leads = all_here (Leads all) before after pl m.leads done rest (opt.Jump to args) e in
-    let z = leads_on set whole ps all other args to m (fits set whole ps settings b pl done rest to args s e) in
+    let settings = whole.settings in
+    let s = spot set whole ps before after pl m in
+    let leads = all_here (Leads set whole.bridges all) before after pl m.leads done rest (opt.Jump to args) e in
+    let z = leads_on set whole ps all args to m (fits set whole ps settings b pl done rest to args s e) in
     let f = z.there in
-    let there = subst (λ (l : List Placed). Spot set whole ps (settings_from 0 l other) (keys_in f.before) f.pl) (sym f.here) (spot set whole ps other f.before f.after f.pl z.made) in
+    let there = spot set whole ps f.before f.after f.pl z.made in
     let lt = within_ops pl.piece.ops done rest (opt.Jump to args) e in
-    let low : to_all all (b + k) < 2 ^ 31 = omega (arith, to_split before after pl k lt, leads.0, start_low set whole ps all other args to m z) in
+    let low : to_all all (b + k) < 2 ^ 31 = omega (arith, to_split before after pl k lt, leads.0, start_low set whole ps all args to m z) in
     let goes = goes_to g.by (to_all all) (all_slots all) front behind x (b + k) (all_aim set whole ps all m) split j low m.short in
-    let last = end_last pl.piece.ops done rest (opt.Jump to args) s.sound.formed.ends_once e refl in
+    let last = end_last pl.piece.ops done rest (opt.Jump to args) s.lawful.sound.formed.ends_once e refl in
     let at : to_all all (b + k) ≡ runs.start_of (run_of (keys_in f.before) f.pl) = to_split before after pl k lt ∙ leads.0 ∙ f.start ∙ sym (start_same (keys_in f.before) f.pl) in
     let table : (settings f.pl.piece.id).table ≡ (settings pl.piece.id).table =
     ap (λ (d : Setting). d.table) there.setting ∙ there.chosen.table ∙ sym s.chosen.table ∙ ap (λ (d : Setting). d.table) (sym s.setting) in
-    let long : length args ≡ length f.pl.piece.label = z.long ∙ ap (λ (p : Piece). length p.label) (sym f.piece) in
     let kinds = z.kinds ∙ ap (λ (p : Piece). map (λ (x : BoxId). Some x.kind) p.label) (sym f.piece) in
-    let meet = places_meet set whole ps settings b (keys_in f.before) pl f.pl args s there leads.1 long in record {
+    let meet = places_meet set whole ps settings b (keys_in f.before) pl f.pl s there (leads.1 ∙ f.places) in record {
       to = run_of (keys_in f.before) f.pl;
       there = subst (λ (l : List Placed). Contains (runs_from 0 l) (run_of (keys_in f.before) f.pl)) (sym f.here) (run_there f.before f.after f.pl);
       named = sym f.named ∙ sym (last_jump ps pl.piece.id pl.piece done to args s.at last);
       goes = goes ∙ ap (λ (n : ℕ). 0x40000000 + n) at;
-      enters = λ vs w c a t left place. hold whole ps settings pl.piece.id f.pl.piece.id k vs w c a t table meet left (ready_there set whole ps settings b (keys_in f.before) pl f.pl done rest to args vs w c t m.ready s there e kinds left);
+      enters = λ vs w c a t left place. hold whole.pieces ps settings pl.piece.id f.pl.piece.id k vs w c a t table meet left (ready_there set whole ps settings b (keys_in f.before) pl f.pl done rest to args vs w c t m.ready s there e kinds left);
     }

@@ -29,7 +29,6 @@ use Rattle.bridge_patch.specs.Image.{ArePiecesOf, loop_if, loops_from, AreOfLoop
 use Rattle.image_built.proofs.Leading.{spelled_long, length-led}
 use Rattle.image_built.proofs.Stubbing.{stub_size, stubs_most}
 use Rattle.image_built.proofs.Naming.{piece_of}
-use Rattle.image_built.proofs.Imaging.{HasFront}
 
 -- ---- weights
 
@@ -124,6 +123,9 @@ stubs_counted d k (op ∷ ops) = omega (arith, one (has_stub op), stubs_counted 
 front_short : (h : Half) → total_size (loop_front h) ≤ 4
 front_short Pre = omega arith
 front_short Body = omega arith
+
+abbrev HasFront : Placed → Type 0
+HasFront pl = pl.front ≡ loop_front pl.piece.id.half
 
 piece_short : ChosenAreShort → (set : TraceSet) (pl : Placed) → IsChosen set pl → HasFront pl → length (bytes_in pl) ≤ 4 + 64 * size_of pl.piece
 piece_short short set pl c front =

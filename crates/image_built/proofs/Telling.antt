@@ -27,7 +27,7 @@ use Rattle.image_built.proofs.Splitting.{keys_in, by_key-split}
 use Rattle.image_built.proofs.Locating.{Located, all_located, all_once, jump_in}
 use Rattle.image_built.proofs.Naming.{all_at}
 use Rattle.image_built.proofs.Rowing.{has_of, contains_of, row_here, OpOf, op_of, piece_of_row, row_of_piece, all_rise, one_row, exit_at}
-use Rattle.image_built.proofs.Placing.{Made, are_in, spot, within_ops, op_at}
+use Rattle.image_built.proofs.Placing.{Setup, Made, are_in, spot, within_ops, op_at}
 
 -- ---- what an image says of the key of an operation
 
@@ -51,7 +51,7 @@ number_in Finishing = 0
 number_in Inside = 0
 
 -- a guard that is kept has a jump
-guard_jumps : (op : OptOp) (n : ℕ) → runs.exit_of op ≡ Guarded n → KeepsItsGuard op → has_jump op ≡ true
+pub guard_jumps : (op : OptOp) (n : ℕ) → runs.exit_of op ≡ Guarded n → KeepsItsGuard op → has_jump op ≡ true
 guard_jumps (opt.Plain operation r args d) n e keeps = absurd (cc)
 guard_jumps (opt.Guard operation args m snap) n e keeps = keeps
 guard_jumps (opt.Exit m snap) n e keeps = refl
@@ -66,7 +66,7 @@ pub record RowFor (at : Where) (id : PieceId) (exit place : ℕ) (op : OptOp) (g
   pub owner : row.id ≡ id
   pub told : row.guard ≡ guard
 
-guard_row : (at : Where) (id : PieceId) (exit place : ℕ) (op : OptOp) (n : ℕ) → runs.exit_of op ≡ Guarded n → (r : RowFor at id exit place op (Some n)) × (r.row.at ≡ place)
+pub guard_row : (at : Where) (id : PieceId) (exit place : ℕ) (op : OptOp) (n : ℕ) → runs.exit_of op ≡ Guarded n → (r : RowFor at id exit place op (Some n)) × (r.row.at ≡ place)
 guard_row at id exit place (opt.Plain operation r args d) n e = absurd (cc)
 guard_row at id exit place (opt.Guard operation args m snap) n e = (record { row = _; has = inl refl; number = refl; owner = refl; told = ap (λ (x : Exit). Some (number_in x)) e }, refl)
 guard_row at id exit place (opt.Exit m snap) n e = (record { row = _; has = inl refl; number = refl; owner = refl; told = ap (λ (x : Exit). Some (number_in x)) e }, refl)
@@ -104,10 +104,10 @@ jump_at placed row e n j is =
     let a = around e row.at 0 (all_slots placed) j in
     (e, n, record { front = a.front; slot = a.slot; behind = a.behind; split = a.split; jump = a.jump }, omega (arith, a.place), is)
 
-keeps_at : (ops done rest : List OptOp) (op : OptOp) → All KeepsItsGuard ops → ops ≡ done ++ op ∷ rest → KeepsItsGuard op
+pub keeps_at : (ops done rest : List OptOp) (op : OptOp) → All KeepsItsGuard ops → ops ≡ done ++ op ∷ rest → KeepsItsGuard op
 keeps_at ops done rest op all e = all_at KeepsItsGuard ops (length done) op all (op_at ops done rest op e)
 
-each_in : (set : TraceSet) (whole ps : List Piece) (before after : List Placed) (pl : Placed) (row : ExitRow) → Made set whole ps (before ++ pl ∷ after) → All KeepsItsGuard pl.piece.ops → OpOf pl.setting.at pl.piece.id (displacement_of pl) pl.exit 0 pl.piece.ops row → IsGuards row → HasJump (before ++ pl ∷ after) row
+each_in : (set : TraceSet) (whole : Setup) (ps : List Piece) (before after : List Placed) (pl : Placed) (row : ExitRow) → Made set whole ps (before ++ pl ∷ after) → All KeepsItsGuard pl.piece.ops → OpOf pl.setting.at pl.piece.id (displacement_of pl) pl.exit 0 pl.piece.ops row → IsGuards row → HasJump (before ++ pl ∷ after) row
 each_in set whole ps before after pl row m guards o is =
     let k = length o.done in
     let all = before ++ pl ∷ after in
@@ -117,20 +117,20 @@ each_in set whole ps before after pl row m guards o is =
     let jump = jump_in before after pl o.done o.rest o.op (are_in set whole ps all m) o.split (guard_jumps o.op r.0 r.1 (keeps_at pl.piece.ops o.done o.rest o.op guards o.split)) in
     jump_at all row (keys_in before + k) r.0 (subst (λ (at : ℕ). JumpIs (keys_in before + k) at 0 (all_slots all)) place jump) (says_exit before after pl o.done o.rest o.op o.split ∙ r.1)
 
-each : (set : TraceSet) (whole ps : List Piece) (placed : List Placed) → Made set whole ps placed → (row : ExitRow) → Contains (all_rows placed) row → IsGuards row → HasJump placed row
+each : (set : TraceSet) (whole : Setup) (ps : List Piece) (placed : List Placed) → Made set whole ps placed → (row : ExitRow) → Contains (all_rows placed) row → IsGuards row → HasJump placed row
 each set whole ps placed m row has is =
     let p = piece_of_row placed row (has_of (all_rows placed) row has) in
     let made = subst (Made set whole ps) p.here m in
-    let s = spot set whole ps (λ (q : PieceId). p.pl.setting) p.before p.after p.pl made in
+    let s = spot set whole ps p.before p.after p.pl made in
     let o = op_of p.pl.setting.at p.pl.piece.id (displacement_of p.pl) p.pl.exit 0 p.pl.piece.ops row p.has in
     subst (λ (l : List Placed). HasJump l row) (sym p.here) (each_in set whole ps p.before p.after p.pl row made s.guards o is)
 
 -- ---- each jump of a guard has a row
 
-abbrev ofs : (placed : List Placed) (e : ℕ) → (n : Option ℕ) → ExitRow → Type 0
+abbrev pub ofs : (placed : List Placed) (e : ℕ) → (n : Option ℕ) → ExitRow → Type 0
 ofs placed e guard row = RowOf (image_of placed) (all_rows placed) e guard row
 
-row_of : (before after : List Placed) (pl : Placed) (done rest : List OptOp) (op : OptOp) (guard : Option ℕ) → pl.piece.ops ≡ done ++ op ∷ rest
+pub row_of : (before after : List Placed) (pl : Placed) (done rest : List OptOp) (op : OptOp) (guard : Option ℕ) → pl.piece.ops ≡ done ++ op ∷ rest
     → (r : RowFor pl.setting.at pl.piece.id (pl.exit + exits_in done) (displacement_of pl (0 + length done)) op guard) → ofs (before ++ pl ∷ after) (keys_in before + length done) guard r.row
 row_of before after pl done rest op guard e r =
     let all = before ++ pl ∷ after in
@@ -138,10 +138,10 @@ row_of before after pl done rest op guard e r =
     let mine : Has (rows_of pl) r.row = subst (λ (l : List OptOp). Has (rows_from pl.setting.at pl.piece.id (displacement_of pl) pl.exit 0 l) r.row) (sym e) here in
     (contains_of (all_rows all) r.row (row_of_piece before after pl r.row mine), r.number ∙ sym (exit_at pl done rest op e) ∙ sym (says_number before after pl done rest op e), r.owner ∙ sym (says_owner before after pl done rest op e), r.told)
 
-located_at : (placed : List Placed) (e : ℕ) → JumpAt (image_of placed) e → Located placed e
+pub located_at : (placed : List Placed) (e : ℕ) → JumpAt (image_of placed) e → Located placed e
 located_at placed e x = key_at (Located placed) x.front x.behind x.slot e (subst (KeysAre (Located placed)) x.split (all_located placed)) x.jump
 
-exit_located : (placed : List Placed) (e : ℕ) (h : Located placed e) → (image_of placed).exit e ≡ runs.exit_of h.op
+pub exit_located : (placed : List Placed) (e : ℕ) (h : Located placed e) → (image_of placed).exit e ≡ runs.exit_of h.op
 exit_located placed e h =
     ap (λ (l : List Placed). (image_of l).exit e) h.here ∙ ap (λ (k : ℕ). (image_of (h.before ++ h.pl ∷ h.after)).exit k) h.key ∙ says_exit h.before h.after h.pl h.done h.rest h.op h.split
 
@@ -149,7 +149,7 @@ row_located : (placed : List Placed) (e : ℕ) (h : Located placed e) (guard : O
 row_located placed e h guard row r =
     subst (λ (l : List Placed). ofs l e guard row) (sym h.here) (subst (λ (k : ℕ). ofs (h.before ++ h.pl ∷ h.after) k guard row) (sym h.key) r)
 
-guards : (set : TraceSet) (whole ps : List Piece) (placed : List Placed) → Made set whole ps placed → (e n : ℕ) (x : JumpAt (image_of placed) e) → (image_of placed).exit e ≡ Guarded n
+guards : (set : TraceSet) (whole : Setup) (ps : List Piece) (placed : List Placed) → Made set whole ps placed → (e n : ℕ) (x : JumpAt (image_of placed) e) → (image_of placed).exit e ≡ Guarded n
     → (row : ExitRow) × (row.at ≡ sizes_of x.front + disp_in x.slot) × ofs placed e (Some n) row
 guards set whole ps placed m e n x is =
     let h = located_at placed e x in
@@ -157,7 +157,7 @@ guards set whole ps placed m e n x is =
     let all = h.before ++ h.pl ∷ h.after in
     let kind : runs.exit_of h.op ≡ Guarded n = sym (exit_located placed e h) ∙ is in
     let made = subst (Made set whole ps) h.here m in
-    let s = spot set whole ps (λ (q : PieceId). h.pl.setting) h.before h.after h.pl made in
+    let s = spot set whole ps h.before h.after h.pl made in
     let r = guard_row h.pl.setting.at h.pl.piece.id (h.pl.exit + exits_in h.done) (displacement_of h.pl (0 + k)) h.op n kind in
     let jump = jump_in h.before h.after h.pl h.done h.rest h.op (are_in set whole ps all made) h.split (guard_jumps h.op n kind (keeps_at h.pl.piece.ops h.done h.rest h.op s.guards h.split)) in
     let there : JumpIs e (displacement_of h.pl k) 0 (all_slots placed) =
@@ -175,7 +175,7 @@ finishes placed e x is =
     let r = finish_row h.pl.setting.at h.pl.piece.id (h.pl.exit + exits_in h.done) (displacement_of h.pl (0 + k)) h.op (sym (exit_located placed e h) ∙ is) in
     (r.row, row_located placed e h None r.row (row_of h.before h.after h.pl h.done h.rest h.op None h.split r))
 
-pub rows_are : (set : TraceSet) (whole ps : List Piece) (placed : List Placed) → Made set whole ps placed → RowsAre (image_of placed) (all_rows placed)
+pub rows_are : (set : TraceSet) (whole : Setup) (ps : List Piece) (placed : List Placed) → Made set whole ps placed → RowsAre (image_of placed) (all_rows placed)
 rows_are set whole ps placed m = record {
   each = each set whole ps placed m;
   guards = guards set whole ps placed m;

@@ -12,11 +12,8 @@ use Rattle.trace_ops.specs.declared.piece.Piece.{Piece}
 use Rattle.trace_ops.specs.declared.piece.OptTrace.{OptTrace}
 use Rattle.trace_meaning.specs.declared.value.Value.{Value}
 use Rattle.trace_meaning.specs.declared.value.Object.{Object}
-use Rattle.trace_meaning.specs.Kinds.{ObjectsHold}
-use Rattle.trace_meaning.specs.Values.{kind_of_value}
-use Rattle.trace_meaning.specs.World.{World}
-use Rattle.trace_meaning.specs.Recorded.{prebuilt_object}
-use Rattle.opt_meaning.specs.Step.{opt_begin}
+use Rattle.trace_meaning.specs.declared.call.Answer.{Answer}
+use Rattle.trace_meaning.specs.Recorded.{prebuilt_object, first_world}
 use Rattle.opt_meaning.specs.Pieces.{piece_at, ops_at, all_pieces, preamble}
 use Rattle.arena_objects.specs.Layout.{address_of, word_of}
 use Rattle.arena_objects.specs.Standing.{Stands}
@@ -32,7 +29,7 @@ use Rattle.image_runs.specs.Selection.{Model}
 use Rattle.image_runs.specs.Printed.{Printed}
 use Rattle.image_runs.specs.Image.{code_in, IsImage}
 use Rattle.image_runs.specs.Sessions.{StartsBegin, IsBuilt}
-use Rattle.image_model.specs.Ready.{AreKinded, StaysReady}
+use Rattle.image_model.specs.Ready.{AreKinded}
 use Rattle.image_model.specs.Modelled.{model_of}
 use Rattle.image_model.specs.Laws.{HostServes}
 use Rattle.image_built.specs.Built.{image_of, settings_from}
@@ -47,11 +44,6 @@ pub record Compiled (set : TraceSet) (loops : List OptTrace) (image : Imaged) : 
 abbrev pub Keeps : List Piece → List Piece → Type 0
 Keeps ps whole = (q : PieceId) (p : Piece) → piece_at ps q ≡ Some p → ops_at whole q ≡ p.ops
 
--- Each piece stays ready from values of the kinds of its label, in a world whose objects hold what they should.
-abbrev pub StayReady : TraceSet → List Piece → Type 0
-StayReady set ps =
-    (q : PieceId) (p : Piece) (vs : List Value) (w : World) → piece_at ps q ≡ Some p → AreKinded set.table (map (λ (b : BoxId). Some b.kind) p.label) vs w → StaysReady set.table p.ops (opt_begin p.label vs w)
-
 -- the model of the compiled pieces, in a whole of pieces of which the others have these settings
 abbrev pub model_for : Host → (set : TraceSet) (whole : List Piece) (other : PieceId → Setting) (loops : List OptTrace) (image : Imaged) → Compiled set loops image → Model
 model_for host set whole other loops image z = model_of host set whole (settings_from 0 z.made.placed other) (all_pieces loops)
@@ -64,7 +56,7 @@ pub record StandsAs (host : Host) (set : TraceSet) (whole : List Piece) (other :
 abbrev pub CompiledStands : Host → Type 0
 CompiledStands host =
     (set : TraceSet) (whole : List Piece) (other : PieceId → Setting) (loops : List OptTrace) (image : Imaged) (z : Compiled set loops image)
-    → HostServes host set.table → StayReady set (all_pieces loops) → Keeps (all_pieces loops) whole → StandsAs host set whole other loops image z
+    → HostServes host set.table → Keeps (all_pieces loops) whole → StandsAs host set whole other loops image z
 
 -- ---- starts
 
@@ -72,9 +64,9 @@ CompiledStands host =
 abbrev pub first_objects : TraceSet → List Object
 first_objects set = map prebuilt_object set.table.prebuilts
 
--- values of the kinds of the trace's inputs
-abbrev pub AreInputs : List Value → Trace → Type 0
-AreInputs inputs t = map (λ (x : Value). kind_of_value x) inputs ≡ map (λ (b : BoxId). b.kind) t.inputs
+-- values of the kinds of the trace's inputs, each of which is there, over prebuilt objects that hold what they should
+abbrev pub AreInputs : TraceSet → List Value → Trace → Type 0
+AreInputs set inputs t = (given : List Answer) → AreKinded set.table (map (λ (b : BoxId). Some b.kind) t.inputs) inputs (first_world set.table given)
 
 -- A machine that is started at an offset for a trace: the inputs' words are in its frame, and its arena has the prebuilt objects.
 pub record IsStarted (set : TraceSet) (trace entry : ℕ) (inputs : List Value) (s : State) : Type 0 where
@@ -85,9 +77,8 @@ pub record IsStarted (set : TraceSet) (trace entry : ℕ) (inputs : List Value) 
   pub few : length words ≤ 64
   pub are : All IsWord words
   pub values : AllZip (λ (w : ℤ) (x : Value). w ≡ word_of (address_of (first_objects set)) x) words inputs
-  pub inputs_are : IsSomeAnd (slice_get set.traces trace) (AreInputs inputs)
+  pub inputs_are : IsSomeAnd (slice_get set.traces trace) (AreInputs set inputs)
   pub parts : AreParts (length (first_objects set)) inputs
-  pub objects : ObjectsHold set.table (first_objects set)
   pub stands : Stands set.table (first_objects set) s.arena
   pub prebuilts : PrebuiltsStand set.table (first_objects set)
 
@@ -115,12 +106,12 @@ pub record IsPrinted (set : TraceSet) (ps : List Piece) (image : Imaged) (im : P
 abbrev pub CompiledBegins : Host → Type 0
 CompiledBegins host =
     (set : TraceSet) (whole : List Piece) (other : PieceId → Setting) (loops : List OptTrace) (image : Imaged) (z : Compiled set loops image) (im : Printed)
-    → HostStarts host set → StayReady set (all_pieces loops) → Keeps (all_pieces loops) whole → IsPrinted set (all_pieces loops) image im
+    → HostStarts host set → Keeps (all_pieces loops) whole → IsPrinted set (all_pieces loops) image im
     → StartsBegin (model_for host set whole other loops image z) (all_pieces loops) (image_of z.made.placed) im
 
 -- so with no parts it is built
 abbrev pub CompiledIsBuilt : Host → Type 0
 CompiledIsBuilt host =
     (set : TraceSet) (whole : List Piece) (other : PieceId → Setting) (loops : List OptTrace) (image : Imaged) (z : Compiled set loops image) (im : Printed)
-    → HostServes host set.table → HostStarts host set → StayReady set (all_pieces loops) → Keeps (all_pieces loops) whole → IsPrinted set (all_pieces loops) image im → im.parts ≡ []
+    → HostServes host set.table → HostStarts host set → Keeps (all_pieces loops) whole → IsPrinted set (all_pieces loops) image im → im.parts ≡ []
     → IsBuilt (model_for host set whole other loops image z) (λ j. all_pieces loops) (λ j. image_of z.made.placed) im

@@ -1,3 +1,5 @@
 pub mod Built
 pub mod Laws
+pub mod Attached
 pub mod Running
+pub mod Hosting

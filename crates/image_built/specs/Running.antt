@@ -9,12 +9,13 @@ use Rattle.trace_ops.specs.declared.piece.OptTrace.{OptTrace}
 use Rattle.trace_meaning.specs.World.{World}
 use Rattle.trace_meaning.specs.Legs.{Leave, Waits, Misfits, Wrong, In, run, Leg, Ended, legs}
 use Rattle.trace_meaning.specs.Observed.{world_left}
+use Rattle.trace_meaning.specs.Cuts.{Cuts}
 use Rattle.opt_meaning.specs.Step.{Opt, opt_step}
 use Rattle.opt_meaning.specs.Pieces.{PiecesNow, pieces, all_pieces}
 use Rattle.guard_exit.specs.declared.row.ExitRow.{ExitRow}
 use Rattle.asm_select.specs.Chosen.{Setting}
 use Rattle.bridge_patch.specs.Image.{Imaged}
-use Rattle.image_runs.specs.Printed.{Printed}
+use Rattle.image_runs.specs.Printed.{Printed, code_at}
 use Rattle.image_runs.specs.Session.{Host, End, Full, Waiting, Misfitting, Activation, Session, SessionRun}
 use Rattle.image_runs.specs.Selection.{ended}
 use Rattle.image_runs.specs.Runs.{world_now}
@@ -23,53 +24,62 @@ use Rattle.image_runs.specs.Listed.{GoWrong}
 use Rattle.image_model.specs.Modelled.{SameCalls, Fills}
 use Rattle.image_model.specs.Laws.{HostServes}
 use Rattle.image_built.specs.Built.{settings_from}
-use Rattle.image_built.specs.Laws.{Compiled, StayReady, Keeps, HostStarts, IsPrinted}
+use Rattle.image_built.specs.Attached.{Attached, IsPrintedWith, pieces_in, settings_with}
+use Rattle.image_built.specs.Laws.{Compiled, Keeps, HostStarts, IsPrinted}
 
 -- nothing is started yet
 abbrev pub no_session : Session
 no_session = record { parts = 0; activations = [] }
 
--- the pieces, to which no bridge is attached, after so many operations of an activation's loop, and after so many legs
-abbrev pub now_after : TraceSet → List Piece → Activation → ℕ → PiecesNow
-now_after set ps act n = run (pieces set ps []) n (first_now (pieces set ps []) (begun_of set.table act))
+-- the pieces, under these attachments, after so many operations of an activation's loop, and after so many legs
+abbrev pub now_after : TraceSet → List Piece → Cuts → Activation → ℕ → PiecesNow
+now_after set ps cuts act n = run (pieces set ps cuts) n (first_now (pieces set ps cuts) (begun_of set.table act))
 
-abbrev pub leg_after : TraceSet → List Piece → Activation → ℕ → Leg PieceId
-leg_after set ps act n = legs (pieces set ps []) n (first_leg (begun_of set.table act))
+abbrev pub leg_after : TraceSet → List Piece → Cuts → Activation → ℕ → Leg PieceId
+leg_after set ps cuts act n = legs (pieces set ps cuts) n (first_leg (begun_of set.table act))
 
 -- the pieces have ended so after each number of legs from one more than the activation's instructions on
-abbrev pub PiecesEnd : TraceSet → List Piece → Activation → PieceId → Leave → Type 0
-PiecesEnd set ps act q l = (n : ℕ) → act.machine.instructions + 1 ≤ n → leg_after set ps act n ≡ Ended q l
+abbrev pub PiecesEnd : TraceSet → List Piece → Cuts → Activation → PieceId → Leave → Type 0
+PiecesEnd set ps cuts act q l = (n : ℕ) → act.machine.instructions + 1 ≤ n → leg_after set ps cuts act n ≡ Ended q l
 
 -- the pieces go wrong, and nothing is said
-abbrev pub GoneWrong : TraceSet → List Piece → Activation → Type 0
-GoneWrong set ps act = GoWrong (pieces set ps []) (begun_of set.table act)
+abbrev pub GoneWrong : TraceSet → List Piece → Cuts → Activation → Type 0
+GoneWrong set ps cuts act = GoWrong (pieces set ps cuts) (begun_of set.table act)
 
 -- An activation has ended as its pieces have: at a guard or a finish, which the row names, with the same calls; at a call without
 -- an answer, or with one that doesn't fit; or where more bytes are asked for than are left.
-pub data EndsAlike (host : Host) (set : TraceSet) (ps : List Piece) (act : Activation) : End → Type 0 where
-  By_row : (end : End) (q : PieceId) (l : Leave) (row : ExitRow) → row.id ≡ q → row.guard ≡ guard_of l → host.shows row act.calls act.machine end → SameCalls (world_left (ended l)) act.calls → PiecesEnd set ps act q (ended l) → EndsAlike host set ps act end
-  Without_answer : (q : PieceId) → ((n : ℕ) → act.machine.instructions + 1 ≤ n → (w : World) × (leg_after set ps act n ≡ Ended q (Waits w)) × SameCalls w act.calls) → EndsAlike host set ps act Waiting
-  With_misfit : (q : PieceId) (call : ℕ) → ((n : ℕ) → act.machine.instructions + 1 ≤ n → (w : World) × (leg_after set ps act n ≡ Ended q (Misfits w)) × SameCalls w act.calls × (call ≡ length w.log - 1)) → EndsAlike host set ps act (Misfitting call)
-  For_want_of_bytes : (q : PieceId) (op : OptOp) (rest : List OptOp) (env : Opt) (n asked left : ℕ) → now_after set ps act n ≡ In q (op ∷ rest) env → Fills set.table env.world (opt_step set.table op env) act.machine asked left
-      → EndsAlike host set ps act (Full asked left)
+pub data EndsAlike (host : Host) (set : TraceSet) (ps : List Piece) (cuts : Cuts) (act : Activation) : End → Type 0 where
+  By_row : (end : End) (q : PieceId) (l : Leave) (row : ExitRow) → row.id ≡ q → row.guard ≡ guard_of l → host.shows row act.calls act.machine end → SameCalls (world_left (ended l)) act.calls → PiecesEnd set ps cuts act q (ended l) → EndsAlike host set ps cuts act end
+  Without_answer : (q : PieceId) → ((n : ℕ) → act.machine.instructions + 1 ≤ n → (w : World) × (leg_after set ps cuts act n ≡ Ended q (Waits w)) × SameCalls w act.calls) → EndsAlike host set ps cuts act Waiting
+  With_misfit : (q : PieceId) (call : ℕ) → ((n : ℕ) → act.machine.instructions + 1 ≤ n → (w : World) × (leg_after set ps cuts act n ≡ Ended q (Misfits w)) × SameCalls w act.calls × (call ≡ length w.log - 1)) → EndsAlike host set ps cuts act (Misfitting call)
+  For_want_of_bytes : (q : PieceId) (op : OptOp) (rest : List OptOp) (env : Opt) (n asked left : ℕ) → now_after set ps cuts act n ≡ In q (op ∷ rest) env → Fills set.table env.world (opt_step set.table op env) act.machine asked left
+      → EndsAlike host set ps cuts act (Full asked left)
 
 -- a going activation has had the calls and the failures of its pieces
-pub record GoesAlike (set : TraceSet) (ps : List Piece) (act : Activation) : Type 0 where
+pub record GoesAlike (set : TraceSet) (ps : List Piece) (cuts : Cuts) (act : Activation) : Type 0 where
   pub operations : ℕ
-  pub calls : SameCalls (world_now (pieces set ps []) (now_after set ps act operations)) act.calls
-  pub failures : (world_now (pieces set ps []) (now_after set ps act operations)).failures ≡ act.failures
+  pub calls : SameCalls (world_now (pieces set ps cuts) (now_after set ps cuts act operations)) act.calls
+  pub failures : (world_now (pieces set ps cuts) (now_after set ps cuts act operations)).failures ≡ act.failures
 
 -- An activation runs as its pieces do, in code of so many bytes.
-pub record RunsAlike (host : Host) (set : TraceSet) (ps : List Piece) (bytes : ℕ) (act : Activation) : Type 0 where
+pub record RunsAlike (host : Host) (set : TraceSet) (ps : List Piece) (cuts : Cuts) (bytes : ℕ) (act : Activation) : Type 0 where
   -- forward: what ends after n legs ends within n + 1 times as many instructions as there are bytes
-  pub forward : (n : ℕ) (q : PieceId) (l : Leave) → act.end ≡ None → leg_after set ps act n ≡ Ended q l → (n + 1) * bytes ≤ act.machine.instructions → (w : World) × (l ≡ Wrong w)
+  pub forward : (n : ℕ) (q : PieceId) (l : Leave) → act.end ≡ None → leg_after set ps cuts act n ≡ Ended q l → (n + 1) * bytes ≤ act.machine.instructions → (w : World) × (l ≡ Wrong w)
   -- backward
-  pub ends : (end : End) → act.end ≡ Some end → EndsAlike host set ps act end ⊎ GoneWrong set ps act
-  pub goes : act.end ≡ None → GoesAlike set ps act ⊎ GoneWrong set ps act
+  pub ends : (end : End) → act.end ≡ Some end → EndsAlike host set ps cuts act end ⊎ GoneWrong set ps cuts act
+  pub goes : act.end ≡ None → GoesAlike set ps cuts act ⊎ GoneWrong set ps cuts act
 
 -- Whatever is started, and whatever events there are, all activations do so. The settings are those of the compiled pieces.
 abbrev pub CompiledRuns : Host → (set : TraceSet) (whole ps : List Piece) → (PieceId → Setting) → Type 0
 CompiledRuns host set whole ps settings =
     (other : PieceId → Setting) (loops : List OptTrace) (image : Imaged) (z : Compiled set loops image) (im : Printed) (s : Session)
-    → ps ≡ all_pieces loops → settings ≡ settings_from 0 z.made.placed other → HostServes host set.table → HostStarts host set → AnswersMakeNone host → StayReady set ps → Keeps ps whole → IsPrinted set ps image im → im.parts ≡ []
-    → SessionRun host im no_session s → All (RunsAlike host set ps (length image.bytes)) s.activations
+    → ps ≡ all_pieces loops → settings ≡ settings_from 0 z.made.placed other → HostServes host set.table → HostStarts host set → AnswersMakeNone host → Keeps ps whole → IsPrinted set ps image im → im.parts ≡ []
+    → SessionRun host im no_session s → All (RunsAlike host set ps [] (length image.bytes)) s.activations
+
+-- The same where bridges are attached meanwhile: each activation runs as the pieces that are attached by then, under its own cuts.
+abbrev pub AttachedRuns : Host → (set : TraceSet) (whole ps : List Piece) → (PieceId → Setting) → Type 0
+AttachedRuns host set whole ps settings =
+    (other : PieceId → Setting) (loops : List OptTrace) (count : ℕ) (z : Attached set loops count) (im : Printed) (s : Session)
+    → ps ≡ pieces_in (z.placed s.parts) → settings ≡ settings_with set loops count z other → HostServes host set.table → HostStarts host set → AnswersMakeNone host
+    → Keeps (pieces_in (z.placed count)) whole → IsPrintedWith set loops count z im
+    → SessionRun host im no_session s → All (λ (act : Activation). RunsAlike host set ps act.cuts (length (code_at im s.parts)) act) s.activations

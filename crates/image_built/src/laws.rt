@@ -4,7 +4,9 @@ ghost use Rattle.image_built.specs.Laws.{CompiledStands, CompiledBegins, Compile
 
 use asm_select::{chosen_are_short, chosen_have_rows, exits_have_rows, label_holds, start_fits};
 use code_layout::chosen_jumps;
-use image_model::{Hosted, jumps_hold, selected_pieces_do, stubs_exit};
+use image_model::{
+    Hosted, guards_hold, jumps_hold, selected_pieces_do, sound_pieces_stay_ready, stubs_exit,
+};
 use trace_ops::equality_decides;
 
 /// The bytes of compiled loops are those of slots under keys that are numbered through; the pieces stand in them, each jump
@@ -20,6 +22,8 @@ pub fn compiled_stands<T: Hosted>()
     selected_pieces_do::<T>();
     stubs_exit::<T>();
     jumps_hold();
+    guards_hold();
+    sound_pieces_stay_ready();
 }
 
 /// A machine that is started at an entry of the printed image comes to its loop's first operation, with the inputs at the
@@ -32,6 +36,7 @@ pub fn compiled_begins<T: Hosted>()
     chosen_are_short();
     label_holds();
     start_fits();
+    sound_pieces_stay_ready();
 }
 
 /// So a printed image of compiled loops, without parts, is built.

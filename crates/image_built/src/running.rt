@@ -5,8 +5,9 @@ ghost use Rattle.trace_ops.specs.declared.trace.TraceSet.{TraceSet};
 ghost use Rattle.trace_ops.specs.declared.piece.PieceId.{PieceId};
 ghost use Rattle.trace_ops.specs.declared.piece.Piece.{Piece};
 ghost use Rattle.asm_select.specs.Chosen.{Setting};
-ghost use Rattle.image_built.specs.Running.{CompiledRuns};
+ghost use Rattle.image_built.specs.Running.{CompiledRuns, AttachedRuns};
 
+use crate::attached::attached_is_built;
 use crate::laws::compiled_is_built;
 use image_model::Hosted;
 use image_runs::{
@@ -42,6 +43,20 @@ pub fn compiled_runs<T: Compiling + Drop>()
     ensures { (x : T) → CompiledRuns (T.host x) (T.set x) (T.whole x) (T.pieces x) (T.settings x) }
 {
     compiled_is_built::<T>();
+    built_stands::<Code<T>>();
+    sessions_stand::<Code<T>>();
+    ends_forward::<Code<T>>();
+    ends_backward::<Code<T>>();
+    calls_are_had::<Code<T>>();
+}
+
+/// Whatever is started on the printed image of compiled loops, and whatever events there are, attachments among them: each
+/// activation runs as the pieces that are attached by then, under its own cuts, forward and backward, with the same calls and
+/// failures.
+pub fn attached_runs<T: Compiling + Drop>()
+    ensures { (x : T) → AttachedRuns (T.host x) (T.set x) (T.whole x) (T.pieces x) (T.settings x) }
+{
+    attached_is_built::<T>();
     built_stands::<Code<T>>();
     sessions_stand::<Code<T>>();
     ends_forward::<Code<T>>();

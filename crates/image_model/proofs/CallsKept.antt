@@ -1,5 +1,5 @@
 -- An operation that calls no host leaves calls and answers as they are.
-use Rattle.std.proofs.Common.{◌≡◌, ℕ, Bool, true, false, List, [], ◌∷◌, length, drop, refl, sym, ap, ◌∙◌, subst, arith, Option, Some, None, ℤ, pos}
+use Rattle.std.proofs.Common.{◌≡◌, ℕ, Bool, true, false, List, [], ◌∷◌, refl, sym, ap, arith, Option, Some, None, ℤ, pos}
 use Rattle.std.specs.Prelude.{slice_get, IsTrue, ◌+ℤ◌, ◌-ℤ◌, ◌*ℤ◌, option_and_then}
 use Rattle.std.specs.Option.{option_map}
 use Rattle.trace_ops.specs.declared.code.OpCode.{OpCode}
@@ -21,10 +21,10 @@ use Rattle.trace_meaning.specs.declared.value.Object.{Object}
 use Rattle.trace_meaning.specs.World.{World}
 use Rattle.trace_meaning.specs.Objects.{read, write, write_unfrozen, with_object, written, length_at, is_frozen, index_of}
 use Rattle.trace_meaning.specs.Folding.{fold}
-use Rattle.trace_meaning.specs.Performing.{Done, Gave, Bad, Waited, Misfitted, value_done, write_done, overflowing, get_field, set_field, get_item, set_item, get_length, make_structure, make_items, make_array, answered_if, called_first, called, call_row, function_in, call_function, call, perform}
+use Rattle.trace_meaning.specs.Performing.{Done, Gave, Bad, Waited, Misfitted, value_done, write_done, overflowing, get_field, set_field, get_item, set_item, get_length, make_structure, make_items, make_array, perform}
 use Rattle.trace_meaning.specs.Passing.{passes}
 use Rattle.trace_meaning.specs.Legs.{Leave, Fails, Jumps, Finishes, Waits, Misfits, Wrong, Turn, On, Off}
-use Rattle.opt_meaning.specs.Step.{Opt, opt_values, resume_args, opt_result, opt_plain, opt_leave, opt_fail, opt_guard, opt_perform, opt_test, opt_step}
+use Rattle.opt_meaning.specs.Step.{Opt, opt_values, resume_args, opt_result, opt_plain, opt_leave, opt_guard, opt_perform, opt_test, opt_step}
 use Rattle.asm_select.specs.declared.told.Told.{Told}
 use Rattle.asm_select.specs.Chosen.{Setting, access_form}
 use Rattle.asm_select.specs.Ended.{IsPlain, IsHere}

@@ -1,5 +1,5 @@
 -- Selected pieces do what their operations do.
-use Rattle.std.proofs.Common.{◌≡◌, ℕ, ◌+◌, ◌^◌, ◌<◌, ◌≤◌, List, [], ◌∷◌, ◌++◌, length, drop, append_assoc, refl, sym, ap, ◌∙◌, subst, inl, inr, arith, ◌⊎◌, Some}
+use Rattle.std.proofs.Common.{◌≡◌, ℕ, ◌+◌, ◌^◌, ◌<◌, List, [], ◌∷◌, ◌++◌, length, drop, append_assoc, refl, sym, ap, ◌∙◌, subst, inl, inr, arith, ◌⊎◌, Some}
 use Rattle.std.specs.Prelude.{slice_get}
 use Rattle.lists.proofs.Appends.{get_middle}
 use Rattle.trace_ops.specs.declared.trace.TraceSet.{TraceSet}
@@ -18,8 +18,8 @@ use Rattle.asm_select.specs.declared.told.Told.{Told}
 use Rattle.asm_select.specs.declared.told.Told.TheVariants as tell
 use Rattle.x64_encode.specs.declared.instr.Instr.TheVariants as instr
 use Rattle.trace_ops.specs.declared.table.Table.{Table}
-use Rattle.asm_select.specs.Slots.{Slot, Put, size_of, sizes_of}
-use Rattle.asm_select.specs.Chosen.{Setting, told_by, code_of}
+use Rattle.asm_select.specs.Slots.{Slot, Put, sizes_of}
+use Rattle.asm_select.specs.Chosen.{Setting, told_by}
 use Rattle.asm_select.specs.Reached.{Reach, Holds, AreApart}
 use Rattle.asm_select.specs.Ended.{IsHere, LeavesWith, Counts, ComesTo, FollowsBy, CodeFollows, loads_of, stores_of}
 use Rattle.asm_select.specs.Asked.{AreSafe, AreChosen, CallsBy, CallsFollow, HostLeft, given_by, call_size, entry_by, in_host, returned}

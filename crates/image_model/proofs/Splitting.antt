@@ -1,5 +1,5 @@
 -- An operation of a selected piece, by its place.
-use Rattle.std.proofs.Common.{◌≡◌, ℕ, zero, suc, ◌+◌, List, [], ◌∷◌, ◌++◌, length, drop, refl, sym, ap, ◌∙◌, subst, arith, ◌⊎◌}
+use Rattle.std.proofs.Common.{◌≡◌, ℕ, suc, ◌+◌, List, [], ◌∷◌, ◌++◌, length, drop, refl, sym, ap, ◌∙◌, subst, arith, ◌⊎◌}
 use Rattle.trace_ops.specs.declared.piece.OptOp.{OptOp}
 use Rattle.asm_select.specs.declared.told.Told.{Told}
 use Rattle.asm_select.specs.Slots.{Slot}

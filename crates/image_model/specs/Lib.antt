@@ -1,3 +1,4 @@
 pub mod Ready
+pub mod Staying
 pub mod Modelled
 pub mod Laws

@@ -6,7 +6,7 @@ use Rattle.trace_ops.specs.declared.piece.Piece.{Piece}
 use Rattle.trace_ops.specs.declared.piece.PieceId.{PieceId}
 use Rattle.trace_ops.specs.declared.piece.OptOp.{OptOp}
 use Rattle.target_base.specs.declared.place.Place.{Place}
-use Rattle.trace_meaning.specs.World.{World, events, failed}
+use Rattle.trace_meaning.specs.World.{World, events}
 use Rattle.trace_meaning.specs.Legs.{Leave, Fails, Jumps, Finishes, Waits, Misfits, Wrong, Turn, On, Off}
 use Rattle.trace_meaning.specs.Observed.{world_left}
 use Rattle.opt_meaning.specs.Step.{Opt}

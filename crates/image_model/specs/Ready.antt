@@ -17,7 +17,8 @@ use Rattle.trace_meaning.specs.declared.value.Value.{Value}
 use Rattle.trace_ops.specs.Kinds.{kind_of_arg}
 use Rattle.trace_ops.specs.Parts.{parts_of}
 use Rattle.trace_ops.specs.Pieces.{args_of, finished}
-use Rattle.trace_meaning.specs.Kinds.{ObjectsHold}
+use Rattle.trace_meaning.specs.Kinds.{AreOfKinds, ObjectsHold}
+use Rattle.trace_meaning.specs.Holding.{Holds}
 use Rattle.trace_meaning.specs.Legs.{Leave, Fails, Jumps, Finishes, Waits, Misfits, Wrong, Turn, On, Off}
 use Rattle.trace_meaning.specs.Values.{kind_of_value}
 use Rattle.trace_meaning.specs.World.{World}
@@ -61,9 +62,10 @@ kinds_left (opt.Exit n snap) = map (λ (b : BoxId). Some b.kind) (parts_of snap)
 kinds_left (opt.Jump to args) = map kind_of_arg args
 kinds_left (opt.Finish value) = map kind_of_arg (finished value)
 
+-- values of these kinds, each reference of which is there, in a world whose objects hold what they should
 pub record AreKinded (t : Table) (ks : List (Option Kind)) (vs : List Value) (w : World) : Type 0 where
-  pub values : map (λ (x : Value). Some (kind_of_value x)) vs ≡ ks
-  pub objects : ObjectsHold t w.objects
+  pub values : AreOfKinds (length w.objects) ks vs
+  pub world : Holds t w
 
 abbrev pub LeavesKinds : Table → OptOp → Leave → Type 0
 LeavesKinds t op (Fails n vs w) = AreKinded t (kinds_left op) vs w

@@ -1,9 +1,12 @@
 // What selected pieces do. A caller calls a law for its clause.
 
 ghost use Rattle.image_model.specs.Laws.{SelectedPiecesDo, StubsExit, JumpsHold, GuardsHold};
+ghost use Rattle.image_model.specs.Staying.{SoundPiecesStayReady};
 
 use crate::Hosted;
 use asm_select::{calls_follow, code_follows, label_holds, stub_exits};
+use trace_meaning::operations_keep_kinds;
+use trace_ops::equality_decides;
 
 /// A piece whose operations are chosen does what an image asks of a piece.
 pub fn selected_pieces_do<T: Hosted>()
@@ -32,4 +35,13 @@ pub fn guards_hold()
     ensures { GuardsHold }
 {
     label_holds();
+}
+
+/// A sound piece that begins with values of the kinds of its label, each reference of which is there, over objects that hold what
+/// they should, asks the host in no other way than it should, and leaves with such values over such objects.
+pub fn sound_pieces_stay_ready()
+    ensures { SoundPiecesStayReady }
+{
+    equality_decides();
+    operations_keep_kinds();
 }

@@ -5,4 +5,4 @@ mod hosted;
 mod laws;
 
 pub use hosted::Hosted;
-pub use laws::{guards_hold, jumps_hold, selected_pieces_do, stubs_exit};
+pub use laws::{guards_hold, jumps_hold, selected_pieces_do, sound_pieces_stay_ready, stubs_exit};

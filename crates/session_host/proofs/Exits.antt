@@ -56,6 +56,7 @@ use Rattle.session_host.specs.Showing.{kinds_at, words_at, stray_box, has_spot, 
 use Rattle.session_host.specs.Laws.{ExitsShow}
 use Rattle.session_host.proofs.Saved.{no_stray_box, row_stands}
 use Rattle.session_host.proofs.Bases.{BaseStands, rebuilt_bases}
+use Rattle.session_host.proofs.OfKind.{kinds_same}
 
 pub record ExitLaws : Type 0 where
   pub told : ReferencesAreTold
@@ -157,15 +158,15 @@ at_guard st (opt.Guard operation args m own) n snap vs w u e with kinds =
     let same : own ≡ snap = (if_some (m == n) own snap e).1 in
     record {
       boxes = subst (λ (x : Snapshot). BoxesStand st.at (address_of w.objects) u (parts_of x) vs) same with.1;
-      kinds = kinds.values ∙ ap (λ (x : Snapshot). map (λ (b : BoxId). Some b.kind) (parts_of x)) same;
-      objects = kinds.objects;
+      kinds = kinds_same (length w.objects) (parts_of own) vs kinds.values ∙ ap (λ (x : Snapshot). map (λ (b : BoxId). Some b.kind) (parts_of x)) same;
+      objects = kinds.world.objects;
     }
 at_guard st (opt.Exit m own) n snap vs w u e with kinds =
     let same : own ≡ snap = (if_some (m == n) own snap e).1 in
     record {
       boxes = subst (λ (x : Snapshot). BoxesStand st.at (address_of w.objects) u (parts_of x) vs) same with.1;
-      kinds = kinds.values ∙ ap (λ (x : Snapshot). map (λ (b : BoxId). Some b.kind) (parts_of x)) same;
-      objects = kinds.objects;
+      kinds = kinds_same (length w.objects) (parts_of own) vs kinds.values ∙ ap (λ (x : Snapshot). map (λ (b : BoxId). Some b.kind) (parts_of x)) same;
+      objects = kinds.world.objects;
     }
 
 pub op_same : (ops : List OptOp) (j : ℕ) (a b : OptOp) → slice_get ops j ≡ Some a → slice_get ops j ≡ Some b → a ≡ b

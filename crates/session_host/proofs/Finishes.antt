@@ -21,7 +21,7 @@ use Rattle.trace_meaning.specs.declared.value.Value.{Value}
 use Rattle.trace_meaning.specs.declared.value.Value.TheVariants as v
 use Rattle.trace_meaning.specs.declared.value.Object.{Object}
 use Rattle.trace_meaning.specs.declared.state.RecState.TheVariants as state
-use Rattle.trace_meaning.specs.Kinds.{ObjectsHold}
+use Rattle.trace_meaning.specs.Kinds.{AreOfKinds, ObjectsHold}
 use Rattle.trace_meaning.specs.Legs.{Finishes}
 use Rattle.trace_meaning.specs.Observed.{first_value}
 use Rattle.trace_meaning.specs.Values.{kind_of_value}
@@ -43,7 +43,8 @@ use Rattle.image_model.specs.Modelled.{IsLeftSo}
 use Rattle.session_host.specs.Entries.{stray_in}
 use Rattle.session_host.specs.Showing.{kinds_at, words_at, stray_box, store_in, finish_of, finish_value, finished_unless, finished_at, shown_by, shown_of}
 use Rattle.session_host.specs.Laws.{placed_at, finished_boxes, FinishesShow}
-use Rattle.session_host.proofs.Saved.{no_stray_box, row_stands, heads_same}
+use Rattle.session_host.proofs.OfKind.{first_kind}
+use Rattle.session_host.proofs.Saved.{no_stray_box, row_stands}
 use Rattle.session_host.proofs.Exits.{prebuilt_word, op_same}
 
 pub record FinishLaws : Type 0 where
@@ -109,13 +110,12 @@ module _ (l : FinishLaws) (t : Table) (objects : List Object) (arena : Arena) (s
     ShowsAll row a vs = (stray_box t s row ≡ None) × (finish_value t s row a ≡ first_value vs)
 
     pub all_shown : (row : ExitRow) (a : Option Arg) (vs : List Value) → row.places ≡ map (placed_at st2.at) (finished_boxes a) → ((k : ℕ) → a ≡ Some (arg.Ptr k) → k < length t.prebuilts)
-        → ArgsStand st2 (address_of objects) u (finished a) vs → AreParts (length objects) vs → map (λ (x : Value). Some (kind_of_value x)) vs ≡ map kind_of_arg (finished a) → ShowsAll row a vs
+        → ArgsStand st2 (address_of objects) u (finished a) vs → AreParts (length objects) vs → AreOfKinds (length objects) (map kind_of_arg (finished a)) vs → ShowsAll row a vs
     all_shown row None [] places named h parts kinds = (no_stray row places, refl)
     all_shown row None (x ∷ vs) places named h parts kinds = absurd h
     all_shown row (Some a) [] places named h parts kinds = absurd h
     all_shown row (Some a) (x ∷ vs) places named h parts kinds =
-        let first = heads_same (Some (kind_of_value x)) (kind_of_arg a) (map (λ (y : Value). Some (kind_of_value y)) vs) [] kinds in
-        let z = arg_shown row a x vs places named h parts.0 first.0 in
+        let z = arg_shown row a x vs places named h parts.0 (first_kind (length objects) (kind_of_arg a) x vs kinds) in
         (z.0, ap Some z.1)
 
 pub finishes_show : FinishLaws → FinishesShow
@@ -127,7 +127,7 @@ finishes_show l set whole ps settings bytes q j a vs w c s row end range table n
     let now = subst (λ (x : OptOp). IsLeftSo st x (Finishes vs w) u) one left in
     let arena : Stands t objects s.arena = subst (λ (x : Table). Stands x objects s.arena) table (subst (Stands st.table objects) (sym same.arena) now.arena) in
     let prebuilts : PrebuiltsStand t objects = subst (λ (x : Table). PrebuiltsStand x objects) table now.prebuilts in
-    let kinded : ObjectsHold t objects = subst (λ (x : Table). ObjectsHold x objects) table now.kinds.objects in
+    let kinded : ObjectsHold t objects = subst (λ (x : Table). ObjectsHold x objects) table now.kinds.world.objects in
     let read : objects_in t s.arena ≡ objects = l.back t objects s.arena arena kinded (l.kinds t objects s.arena range arena) in
     let z = all_shown l t objects s.arena arena st table s u refl saved row_is.hold prebuilts row a vs row_is.places prebuilt now.with now.parts now.kinds.values in
     let here_is : shown_of t ps row s ≡ Some (finished_at t s row a) =

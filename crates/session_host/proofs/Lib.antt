@@ -1,3 +1,5 @@
+mod OfKind
+mod Firsts
 mod Registers
 mod Shapes
 mod Passing
@@ -6,6 +8,7 @@ mod Making
 mod Functions
 mod Serving
 mod Starting
+mod Started
 mod Instructing
 mod Saved
 mod Bases

@@ -66,7 +66,7 @@ arena_is bytes ws = refl
 abbrev Stood : Table → List Answer → Arena → Type 0
 Stood t given arena = Stands t (first_world t given).objects arena × HasPrebuilts t (first_world t given).objects
 
-first_stands : FirstWorldStands → FirstBytes → (set : TraceSet) (given : List Answer) (bytes : ℕ) (arena : Arena) → IsInRange set → HasWords set → 65536 ≤ bytes → bytes ≤ 2 ^ 24 → arena ≡ first_arena bytes (first_words set.table) → Stood set.table given arena
+pub first_stands : FirstWorldStands → FirstBytes → (set : TraceSet) (given : List Answer) (bytes : ℕ) (arena : Arena) → IsInRange set → HasWords set → 65536 ≤ bytes → bytes ≤ 2 ^ 24 → arena ≡ first_arena bytes (first_words set.table) → Stood set.table given arena
 first_stands stand counted set given bytes arena range words least most e =
     let t = set.table in
     let n = bytes / 8 - length (first_words t) in
@@ -77,7 +77,7 @@ first_stands stand counted set given bytes arena range words least most e =
 
 -- ---- the inputs
 
-few_inputs : (set : TraceSet) (inputs : List Value) (o : Option Trace) (start : ℕ) → IsInRange set → slice_get set.traces start ≡ o → IsSomeAnd o (StartsLoop set.table inputs) → (length inputs ≤ 64) × All (IsPrebuiltOrNone set.table) inputs
+pub few_inputs : (set : TraceSet) (inputs : List Value) (o : Option Trace) (start : ℕ) → IsInRange set → slice_get set.traces start ≡ o → IsSomeAnd o (StartsLoop set.table inputs) → (length inputs ≤ 64) × All (IsPrebuiltOrNone set.table) inputs
 few_inputs set inputs None start range e h = absurd h
 few_inputs set inputs (Some trace) start range e h =
     let within : IsTraceWithin trace = all_at IsTraceWithin set.traces start trace range.traces_within e in
@@ -94,7 +94,7 @@ module _ (apart : AddressesAreApart) (t : Table) (objects : List Object) (arena 
   one_word v.Null w p = record { sfits = omega arith }
   one_word (v.Obj n) w p = (let a = apart t objects arena n st (omega (arith, p, all)) in record { sfits = omega (arith, a.high) })
 
-  words_fit : (xs : List Value) → All HasWord xs → All (IsPrebuiltOrNone t) xs → All IsWord (map (word_of at) xs)
+  pub words_fit : (xs : List Value) → All HasWord xs → All (IsPrebuiltOrNone t) xs → All IsWord (map (word_of at) xs)
   words_fit [] w p = All-nil IsWord
   words_fit (x ∷ xs) w p =
       All-cons IsWord (word_of at x) (map (word_of at) xs) (one_word x (All-head HasWord x xs w) (All-head (IsPrebuiltOrNone t) x xs p))
@@ -105,7 +105,7 @@ module _ (apart : AddressesAreApart) (t : Table) (objects : List Object) (arena 
   one_part v.Null w p = tt
   one_part (v.Obj n) w p = omega (arith, p, all)
 
-  are_parts : (xs : List Value) → All HasWord xs → All (IsPrebuiltOrNone t) xs → AreParts (length objects) xs
+  pub are_parts : (xs : List Value) → All HasWord xs → All (IsPrebuiltOrNone t) xs → AreParts (length objects) xs
   are_parts [] w p = tt
   are_parts (x ∷ xs) w p = (one_part x (All-head HasWord x xs w) (All-head (IsPrebuiltOrNone t) x xs p), are_parts xs (All-tail HasWord x xs w) (All-tail (IsPrebuiltOrNone t) x xs p))
 

@@ -1,9 +1,13 @@
 -- The host serves the pieces, and its starts begin them.
 use Rattle.std.specs.Prelude.{◌≡◌, ℕ, ◌+◌, ◌-◌, ◌^◌, ◌<◌, ◌≤◌, List, [], ◌∷◌, Option, Some, None, length, map, min, slice_get}
+use Rattle.std.specs.List.{All}
+use Rattle.std.specs.Option.{IsSomeAnd}
 use Rattle.trace_ops.specs.Constants.{HasWords}
 use Rattle.trace_ops.specs.InRange.{IsInRange, IsTableInRange}
 use Rattle.trace_ops.specs.declared.trace.BoxId.{BoxId}
+use Rattle.trace_ops.specs.declared.trace.Trace.{Trace}
 use Rattle.trace_ops.specs.declared.trace.TraceSet.{TraceSet}
+use Rattle.trace_ops.specs.Words.{IsWord}
 use Rattle.trace_ops.specs.declared.piece.Piece.{Piece}
 use Rattle.trace_ops.specs.declared.piece.PieceId.{PieceId}
 use Rattle.trace_ops.specs.declared.piece.OptOp.{OptOp}
@@ -21,6 +25,9 @@ use Rattle.trace_meaning.specs.Legs.{Fails, Finishes}
 use Rattle.trace_meaning.specs.Observed.{first_value}
 use Rattle.trace_meaning.specs.World.{World}
 use Rattle.opt_meaning.specs.Rebuilding.{Rebuilt, rebuilt, snapshot_of, snapshot_in}
+use Rattle.arena_objects.specs.Layout.{address_of, word_of}
+use Rattle.arena_objects.specs.Standing.{Stands}
+use Rattle.arena_objects.specs.Starting.{first_objects}
 use Rattle.arena_objects.specs.Making.{bytes_left}
 use Rattle.resume_rebuild.specs.Rebuilding.{asked_for}
 use Rattle.resume_rebuild.specs.Standing.{CanRebuild}
@@ -33,11 +40,13 @@ use Rattle.opt_meaning.specs.Pieces.{ops_at, label_at, begin_at, last_of, preamb
 use Rattle.x64_machine.specs.State.{State}
 use Rattle.asm_select.specs.Slots.{Slot, Put}
 use Rattle.asm_select.specs.Chosen.{Where, Setting}
+use Rattle.asm_select.specs.Reached.{PrebuiltsStand}
+use Rattle.asm_select.specs.Ended.{AreParts}
 use Rattle.asm_select.specs.Exited.{entry_instr}
 use Rattle.image_runs.specs.Session.{Calls, End, Shows, Full, no_calls}
 use Rattle.image_runs.specs.Reached.{Comes}
 use Rattle.image_runs.specs.Following.{AnswersMakeNone}
-use Rattle.image_model.specs.Ready.{StaysReady}
+use Rattle.image_model.specs.Ready.{AreKinded, StaysReady}
 use Rattle.image_model.specs.Modelled.{HoldsAt, GoneAt}
 use Rattle.image_model.specs.Laws.{HostServes}
 use Rattle.session_host.specs.Hosting.{host_of}
@@ -63,6 +72,21 @@ StartsHold =
     → StaysReady set.table (ops_at whole (preamble trace)) (begin_at ps (preamble trace) inputs (first_world set.table given))
     → (host_of set ps arena_bytes).starts trace entry inputs s
     → Comes ⊥ entry (Put entry_instr ∷ ys) s ys (λ t. HoldsAt (settings (preamble trace)) (ops_at whole (preamble trace)) 0 (begin_at ps (preamble trace) inputs (first_world set.table given)) (no_calls given) t)
+
+-- What a started machine has: the words of its inputs, and an arena in which the prebuilt objects stand. The inputs are of the kinds
+-- of their loop's, each object among them is there, and the prebuilt objects hold what they should.
+pub record HasStarted (set : TraceSet) (trace : ℕ) (inputs : List Value) (s : State) : Type 0 where
+  pub few : length inputs ≤ 64
+  pub words : All IsWord (map (word_of (address_of (first_objects set.table))) inputs)
+  pub parts : AreParts (length (first_objects set.table)) inputs
+  pub stands : Stands set.table (first_objects set.table) s.arena
+  pub prebuilts : PrebuiltsStand set.table (first_objects set.table)
+  pub kinded : IsSomeAnd (slice_get set.traces trace) (λ (t : Trace). (given : List Answer) → AreKinded set.table (map (λ (b : BoxId). Some b.kind) t.inputs) inputs (first_world set.table given))
+
+abbrev pub StartsStand : Type 0
+StartsStand =
+    (set : TraceSet) (ps : List Piece) (arena_bytes trace entry : ℕ) (inputs : List Value) (s : State)
+    → IsInRange set → HasWords set → 65536 ≤ arena_bytes → arena_bytes ≤ 2 ^ 24 → (host_of set ps arena_bytes).starts trace entry inputs s → HasStarted set trace inputs s
 
 -- ---- returns
 

@@ -1,6 +1,6 @@
 //! What the host does is what the model of an image asks of a host.
 
-ghost use Rattle.session_host.specs.Laws.{HostsServe, AnswersAreQuiet, StartsHold, ExitsShow, FinishesShow};
+ghost use Rattle.session_host.specs.Laws.{HostsServe, AnswersAreQuiet, StartsStand, StartsHold, ExitsShow, FinishesShow};
 
 use arena_objects::{
     addresses_are_apart, allocations_stand, bytes_are_taken, objects_are_read_back,
@@ -32,6 +32,15 @@ pub fn hosts_serve()
 pub fn answers_are_quiet()
     ensures { AnswersAreQuiet }
 {}
+
+/// A started machine has words of inputs of its loop's kinds, each of which is there, and an arena in which the prebuilt objects
+/// stand and hold what they should.
+pub fn starts_stand()
+    ensures { StartsStand }
+{
+    addresses_are_apart();
+    first_worlds_stand();
+}
 
 /// A started machine comes to its loop's first piece, which begins with the inputs over the prebuilt objects.
 pub fn starts_hold()

@@ -5,4 +5,6 @@ mod arena_host;
 mod laws;
 
 pub use arena_host::ArenaHost;
-pub use laws::{answers_are_quiet, exits_show, finishes_show, hosts_serve, starts_hold};
+pub use laws::{
+    answers_are_quiet, exits_show, finishes_show, hosts_serve, starts_hold, starts_stand,
+};

@@ -1,5 +1,5 @@
 -- The text of a session whose activations run recorded traces.
-use Rattle.std.specs.Prelude.{ℕ, ◌==◌, Bool, true, false, if◌then◌else◌, Option, Some, None, List, [], ◌∷◌, ◌++◌, codes, slice_get}
+use Rattle.std.specs.Prelude.{ℕ, ◌==◌, Bool, true, false, if◌then◌else◌, Option, Some, None, List, [], ◌∷◌, ◌++◌, slice_get}
 use Rattle.std.specs.List.{list_any}
 use Rattle.trace_ops.specs.declared.trace.Origin.{Origin}
 use Rattle.trace_ops.specs.declared.trace.Origin.TheVariants.{Loop, Bridge}
@@ -16,10 +16,11 @@ use Rattle.trace_meaning.specs.Recorded.{recorded, recorded_run}
 use Rattle.session_text.specs.declared.session.Line.{Line}
 use Rattle.session_text.specs.declared.session.Line.TheVariants as line
 use Rattle.session_text.specs.declared.session.SessionText.{SessionText}
-use Rattle.recorded_seen.specs.declared.attaching.Judged.{Judged}
-use Rattle.recorded_seen.specs.declared.attaching.Judged.TheVariants.{Accepted, Already, NoParent}
+use Rattle.seen_text.specs.declared.lines.Judged.{Judged}
+use Rattle.seen_text.specs.declared.lines.Judged.TheVariants.{Accepted, Already, NoParent}
 use Rattle.descr_table.specs.Names.{or_nothing}
 use Rattle.trace_text.specs.PieceWriting.{trace_name}
+use Rattle.seen_text.specs.Lines.{started_text, attach_text as judged_line}
 use Rattle.recorded_seen.specs.States.{seen_text}
 
 -- ---- attachments
@@ -52,18 +53,13 @@ can_hang set cuts (Some t) = parent_is_there set cuts t.origin
 abbrev pub judged : TraceSet → Cuts → ℕ → Judged
 judged set cuts b = if is_attached cuts b then Already else if can_hang set cuts (slice_get set.traces b) then Accepted else NoParent
 
-abbrev pub judged_text : Judged → List ℕ
-judged_text Accepted = codes " attached\n"
-judged_text Already = codes " refused Already\n"
-judged_text NoParent = codes " refused NoParent\n"
-
 abbrev pub with_judged : Cuts → ℕ → Judged → Cuts
 with_judged cuts b Accepted = cuts ++ (b, 0) ∷ []
 with_judged cuts b Already = cuts
 with_judged cuts b NoParent = cuts
 
 abbrev pub attach_text : TraceSet → Cuts → ℕ → List ℕ
-attach_text set cuts b = trace_name set b ++ judged_text (judged set cuts b)
+attach_text set cuts b = judged_line (trace_name set b) (judged set cuts b)
 
 -- ---- lines
 
@@ -76,9 +72,6 @@ cuts_behind set cuts (line.Attach b) = with_judged cuts b (judged set cuts b)
 
 abbrev pub activation_name : List (List ℕ) → ℕ → List ℕ
 activation_name names a = or_nothing (slice_get names a)
-
-unfoldable pub started_text : List ℕ → List ℕ
-started_text name = name ++ codes " started\n"
 
 -- that an activation was started, and what is observed of its run
 unfoldable pub start_text : List ℕ → TraceSet → Run → List ℕ

@@ -1,19 +1,12 @@
 //! Which attachments of a session are accepted, and what is written of them.
 ghost use Rattle.std.specs.Prelude.{◌≡◌, ◌++◌, slice_get, OnOk};
 ghost use Rattle.trace_ops.specs.Weights.{place_of};
-ghost use Rattle.recorded_seen.specs.Sessions.{is_attached, is_there, place_is_there, parent_is_there, can_hang, judged, judged_text, with_judged, attach_text};
+ghost use Rattle.recorded_seen.specs.Sessions.{is_attached, is_there, place_is_there, parent_is_there, can_hang, judged, with_judged, attach_text};
 
+use seen_text::{Judged, put_attach as put_judged};
 use std::alloc::AllocError;
 use trace_ops::{Origin, Text, Trace, TraceSet};
 use trace_text::trace_name;
-
-/// What becomes of an attachment.
-#[derive(Clone, Copy, Debug, PartialEq, Eq)]
-pub enum Judged {
-    Accepted,
-    Already,
-    NoParent,
-}
 
 fn is_attached(cuts: &[(u32, u64)], bridge: usize) -> bool
     ensures { result ≡ is_attached cuts.now bridge }
@@ -80,16 +73,6 @@ fn judge(set: &TraceSet, cuts: &[(u32, u64)], bridge: u32) -> Judged
     }
 }
 
-fn judged_text(judged: Judged) -> &'static [u8]
-    ensures { result.now ≡ judged_text judged }
-{
-    match judged {
-        Judged::Accepted => b" attached\n",
-        Judged::Already => b" refused Already\n",
-        Judged::NoParent => b" refused NoParent\n",
-    }
-}
-
 fn note(cuts: &mut Vec<(u32, u64)>, bridge: u32, judged: Judged) -> Result<(), AllocError>
     ensures { OnOk result (cuts.new.items ≡ with_judged cuts.old.items bridge judged) }
 {
@@ -114,7 +97,6 @@ pub fn put_attach(
     ensures cuts { OnOk result (cuts.new.items ≡ with_judged cuts.old.items bridge (judged set.now cuts.old.items bridge)) }
 {
     let judged = judge(set, cuts, bridge);
-    out.extend_from_slice(trace_name(set, bridge))?;
-    out.extend_from_slice(judged_text(judged))?;
+    put_judged(out, trace_name(set, bridge), judged)?;
     note(cuts, bridge, judged)
 }

@@ -6,10 +6,11 @@ ghost use Rattle.trace_ops.specs.WellFormed.{IsWellFormed};
 ghost use Rattle.trace_meaning.specs.Starting.{Starts, begun};
 ghost use Rattle.trace_meaning.specs.Standing.{stepped};
 ghost use Rattle.session_text.specs.Fits.{FitsSet};
-ghost use Rattle.recorded_seen.specs.Sessions.{activation_name, started_text, start_text, cuts_behind, line_text, lines_text, session_seen, LineStarts, after, is_going};
+ghost use Rattle.recorded_seen.specs.Sessions.{activation_name, start_text, cuts_behind, line_text, lines_text, session_seen, LineStarts, after, is_going};
 
 use crate::attaching::put_attach;
 use crate::observed::put_observed;
+use seen_text::put_started;
 use session_text::{Line, SessionText};
 use std::alloc::{AllocError, Global};
 use trace_meaning::{Answer, RecRun, RecState, Value, recorded_runs};
@@ -79,14 +80,6 @@ fn run_of(
     let answers = answers.copy_each()?.into_items();
     let cuts = Vec::from_slice(alloc, cuts)?;
     RecRun::new(alloc, set, trace, inputs, answers, cuts)
-}
-
-#[tactic(auto, unfolding(crate::specs::Sessions::started_text))]
-fn put_started(out: &mut Vec<u8>, name: &[u8]) -> Result<(), AllocError>
-    ensures { OnOk result (out.new.items ≡ out.old.items ++ started_text name.now) }
-{
-    out.extend_from_slice(name)?;
-    out.extend_from_slice(b" started\n")
 }
 
 // Adds that an activation is started, and what is seen of it after so many operations.

@@ -1,0 +1,4 @@
+pub mod HexLines
+pub mod PutBack
+pub mod AllUndone
+pub mod PartedText

@@ -1,0 +1,5 @@
+pub mod Hex
+pub mod Texts
+pub mod Printing
+pub mod Undone
+pub mod Parted

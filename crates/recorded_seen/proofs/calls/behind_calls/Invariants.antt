@@ -1,6 +1,0 @@
-use Rattle.std.proofs.Common.{◌≡◌, drop}
-use Rattle.recorded_seen.specs.Calls.{behind_calls}
-use Rattle.recorded_seen.proofs.calls.behind_calls.Given as goal
-
-abbrev pub invariant-loop-call : goal.invariant-loop-call
-invariant-loop-call l = behind_calls (drop l.call-index l.calls) l.rest ≡ behind_calls l.calls l.refs

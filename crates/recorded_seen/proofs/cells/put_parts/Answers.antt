@@ -1,5 +1,0 @@
-use Rattle.recorded_seen.proofs.PartsText.{stops}
-use Rattle.recorded_seen.proofs.cells.put_parts.Goals as goal
-
-pub returns-in_default : goal.returns-in_default
-returns-in_default c = stops c.args.table.now _ _ _ c.loop-field.rest.now c.in_default.ensures.cases c.loop-field.invariant

@@ -1,9 +1,0 @@
-//! What is promised of the texts: laws over the definitions that the contracts cite.
-
-ghost use Rattle.recorded_seen.specs.Shown.{CallsShowTheirValues};
-
-/// Where the numbers of the roots of calls are taken off in order, each call is written with the numbers of its own
-/// arguments and of what was seen of them, by whatever numbering.
-pub fn calls_show_their_values()
-    ensures { CallsShowTheirValues }
-{}

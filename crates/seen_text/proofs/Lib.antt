@@ -1,0 +1,4 @@
+pub mod PartsText
+pub mod Showing
+pub mod Unlisted
+pub mod Joined

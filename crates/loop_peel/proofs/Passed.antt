@@ -32,7 +32,7 @@ use Rattle.trace_meaning.specs.Recorded.{ops_at, ops_of, inputs_of, jump_target,
 use Rattle.opt_meaning.specs.Admits.{plain_entry}
 use Rattle.opt_meaning.specs.Leaving.{Simulates}
 use Rattle.opt_meaning.specs.Pieces.{last_of, preamble}
-use Rattle.opt_pass.specs.Contract.{kept_of, HasEntries, HasFramesOf, GoesOn, EndsWith, own_size, cost_of, IsSmall, IsOf}
+use Rattle.opt_pass.specs.Contract.{kept_of, HasEntries, HasFramesOf, KeepsNoException, GoesOn, EndsWith, own_size, cost_of, IsSmall, IsOf}
 use Rattle.opt_pass.specs.Counting.{constants_of, AreAtMost, AreFewMore, AddsFewConstants}
 use Rattle.opt_pass.specs.Inputs.{HasInputs, AreLawful}
 use Rattle.opt_pass.specs.Recording.{HasSlotsOf, HaveSlots, JumpsWithTrace}
@@ -58,6 +58,7 @@ pub record Passed (set : TraceSet) (id : PieceId) (e : Entry) (to : PieceId) (pi
   pub small : IsSmall set id.trace e piece guards at_end
   pub values : HaveSlots (ops_at set id.trace) guards
   pub jumps : JumpsWithTrace (ops_at set id.trace) piece.ops
+  pub exceptions : AllByRecursion KeepsNoException piece.ops
 
 -- Constants
 
@@ -277,6 +278,7 @@ module _ (set : TraceSet) (p : ℕ) (t : Trace) (h : Half) (e : Entry) (range : 
     simulates = o.simulates;
     guards = o.entries;
     frames = o.frames;
+    exceptions = o.exceptions;
     left = left;
     jumps = jumps_on;
     sound = sound;

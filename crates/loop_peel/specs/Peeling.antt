@@ -24,7 +24,7 @@ use Rattle.opt_meaning.specs.Admits.{plain_entry}
 use Rattle.opt_meaning.specs.Leaving.{Simulates}
 use Rattle.opt_meaning.specs.Meeting.{Made, pieces_of}
 use Rattle.opt_meaning.specs.Pieces.{last_of, preamble}
-use Rattle.opt_pass.specs.Contract.{HasEntries, HasFramesOf}
+use Rattle.opt_pass.specs.Contract.{HasEntries, HasFramesOf, KeepsNoException}
 use Rattle.opt_pass.specs.Inputs.{HasInputs}
 use Rattle.loop_peel.specs.Serving.{IsLeft}
 
@@ -55,6 +55,7 @@ pub record IsPieceOf (set : TraceSet) (p : ℕ) (h : Half) (e : Entry) (m : Made
   -- an entry for each of its guards, of the recorded frames
   pub guards : HasEntries m.piece.ops m.guards
   pub frames : HasFramesOf (ops_at set p) m.piece.ops
+  pub exceptions : AllByRecursion KeepsNoException m.piece.ops
   pub left : AllByRecursion (λ x. IsLeft set p x.0 x.1) m.guards
   pub jumps : JumpsOn set p m
   pub sound : (labels : PieceId → Option (List BoxId)) → HavePreambles set labels → IsSound set labels m.piece

@@ -1,5 +1,5 @@
 -- What the arms keep.
-use Rattle.std.proofs.Common.{◌≡◌, ℕ, ◌+◌, ◌≤◌, true, false, List, [], ◌∷◌, ◌++◌, Option, Some, None, slice_get, refl, sym, ap, ◌∙◌, subst, arith, inl, inr}
+use Rattle.std.proofs.Common.{◌≡◌, ◌≢◌, ℕ, ◌+◌, ◌≤◌, true, false, List, [], ◌∷◌, ◌++◌, Option, Some, None, slice_get, refl, sym, ap, ◌∙◌, subst, arith, inl, inr}
 use Rattle.std.specs.List.{AllByRecursion}
 use Rattle.trace_ops.specs.declared.code.OpCode.{OpCode}
 use Rattle.trace_ops.specs.declared.code.OpCode.TheVariants as code
@@ -133,8 +133,8 @@ no_set : (op : Op) → IsTested op.code → {A : Type 0} → sets_overflow (part
 no_set op (inl e) s = absurd (false_true (sym (ap sets_overflow e) ∙ s))
 no_set op (inr e) s = absurd (false_true (sym (ap sets_overflow e) ∙ s))
 
-keeps_kept_now : (op : Op) (o : Pass) → o.ended ≡ false → IsTested op.code → KeepsAll op o (kept_at o op.code (args_of o op.args) op.snapshot)
-keeps_kept_now op o going is = record {
+keeps_kept_now : (op : Op) (o : Pass) → o.ended ≡ false → IsTested op.code → op.code ≢ code.GuardNoException → KeepsAll op o (kept_at o op.code (args_of o op.args) op.snapshot)
+keeps_kept_now op o going is no_exception = record {
   each = λ laws t apart right checked. record {
     going = going;
     more = opt.Guard op.code (args_of o op.args) o.guard (snap_of o.names o.forward op.snapshot) ∷ [];
@@ -146,7 +146,7 @@ keeps_kept_now op o going is = record {
   boxes = omega arith;
   counted = omega arith;
   checked = λ s. no_set op is s;
-  printed = prints_guard op o (kept_at o op.code (args_of o op.args) op.snapshot) going refl refl (going, refl) is refl;
+  printed = prints_guard op o (kept_at o op.code (args_of o op.args) op.snapshot) going refl refl (going, refl) is no_exception refl;
   to = refl;
   target = refl;
   forms = keeps_form_kept op o is;
@@ -154,8 +154,8 @@ keeps_kept_now op o going is = record {
   pool = keeps_pool_kept op o;
 }
 
-pub keeps_kept : (op : Op) (o new : Pass) (args : List Arg) (frames : List Frame) → o.ended ≡ false → IsTested op.code → args ≡ args_of o op.args → frames ≡ op.snapshot → new ≡ kept_at o op.code args frames → KeepsAll op o new
-keeps_kept op o new args frames going is e f n = subst (KeepsAll op o) (sym (n ∙ ap (kept_at o op.code args) f ∙ ap (λ z. kept_at o op.code z op.snapshot) e)) (keeps_kept_now op o going is)
+pub keeps_kept : (op : Op) (o new : Pass) (args : List Arg) (frames : List Frame) → o.ended ≡ false → IsTested op.code → op.code ≢ code.GuardNoException → args ≡ args_of o op.args → frames ≡ op.snapshot → new ≡ kept_at o op.code args frames → KeepsAll op o new
+keeps_kept op o new args frames going is no_exception e f n = subst (KeepsAll op o) (sym (n ∙ ap (kept_at o op.code args) f ∙ ap (λ z. kept_at o op.code z op.snapshot) e)) (keeps_kept_now op o going is no_exception)
 
 -- a guard that passes wherever its arguments have values
 pub keeps_skipped : (op : Op) (o new : Pass) → o.ended ≡ false → part_of op.code ≡ part.Guard → ((laws : Laws) (t : Table) (r : Rec) (p : Opt) → Stands t o r p → (vs : List Value) → AllByRecursion (IsThere t) op.args → values_of r op.args ≡ Some vs → passes op.code op.args vs r.world ≡ Some true) → new ≡ skipped o → KeepsAll op o new

@@ -33,7 +33,7 @@ use Rattle.opt_meaning.specs.Admits.{plain_entry}
 use Rattle.opt_pass.specs.declared.start.Entering.{Entering}
 use Rattle.opt_pass.specs.declared.state.Pass.{Pass}
 use Rattle.opt_pass.specs.Starting.{made_box, entered_val, entering, making, makings, fill, fills, fills_of, all_fills, entered_store, stores_entered, known_arg, storing_at, storing, entry_ops, started}
-use Rattle.opt_pass.specs.Contract.{kept_of, IsEntryAt, HasEntries, IsEnd, GoesOn, EndsWith, HasFramesOf, KeepsFrames, own_size, making_cost, filling_cost, part_cost, shape_cost, spot_cost, store_cost, cost_of}
+use Rattle.opt_pass.specs.Contract.{kept_of, IsEntryAt, HasEntries, IsEnd, GoesOn, EndsWith, HasFramesOf, KeepsFrames, KeepsNoException, own_size, making_cost, filling_cost, part_cost, shape_cost, spot_cost, store_cost, cost_of}
 use Rattle.trace_ops.specs.declared.piece.Snapshot.{Snapshot}
 use Rattle.std.specs.Option.{IsSomeAnd}
 use Rattle.trace_ops.specs.Classes.{is_guard}
@@ -214,6 +214,7 @@ pub record Shown (to : PieceId) (target : List BoxId) (e : Entry) (ops : List Op
   pub guard : o.ended ≡ false → o.guard ≡ guards_in (take n ops)
   pub frames : HasFramesOf ops o.ops
   pub jumps : AllByRecursion (IsOfJump ops) o.ops
+  pub exceptions : AllByRecursion KeepsNoException o.ops
   pub left : (j : ℕ) (op : Op) → n ≡ j + 1 → slice_get ops j ≡ Some op → ends (part_of op.code) ≡ true → o.ended ≡ true
 
 going_jumps : (ops : List Op) (x : OptOp) → GoesOn x → IsOfJump ops x
@@ -222,6 +223,21 @@ going_jumps ops (opt.Guard c a n s) h = tt
 going_jumps ops (opt.Exit n s) h = absurd h
 going_jumps ops (opt.Jump q a) h = absurd h
 going_jumps ops (opt.Finish v) h = absurd h
+
+-- where no guard is kept, none on an exception is
+no_exceptions : (ops : List OptOp) → flat_map kept_of ops ≡ [] → AllByRecursion KeepsNoException ops
+no_exceptions [] e = tt
+no_exceptions (opt.Plain c r a d ∷ ops) e = (tt, no_exceptions ops e)
+no_exceptions (opt.Guard c a n s ∷ ops) e = absurd (some_none e)
+  where
+    some_none : {x : ℕ × Snapshot} {xs : List (ℕ × Snapshot)} → x ∷ xs ≡ [] → ⊥
+    some_none w = cc
+no_exceptions (opt.Exit n s ∷ ops) e = absurd (some_none e)
+  where
+    some_none : {x : ℕ × Snapshot} {xs : List (ℕ × Snapshot)} → x ∷ xs ≡ [] → ⊥
+    some_none w = cc
+no_exceptions (opt.Jump q a ∷ ops) e = (tt, no_exceptions ops e)
+no_exceptions (opt.Finish v ∷ ops) e = (tt, no_exceptions ops e)
 
 jump_of : (ops : List Op) (n : ℕ) (op : Op) → slice_get ops n ≡ Some op → (x : OptOp) → IsJumpOf op x → IsOfJump ops x
 jump_of ops n op at (opt.Plain c r a d) h = tt
@@ -241,6 +257,7 @@ shown_start t inputs to target e ops = let h = entry_first t e in record {
   guard = λ going. refl;
   frames = subst (AllByRecursion (KeepsFrames ops)) (sym h.none) tt;
   jumps = each_weaker GoesOn (IsOfJump ops) (going_jumps ops) (entry_ops t e) h.goes;
+  exceptions = no_exceptions (entry_ops t e) h.none;
   left = λ j op n. absurd (omega (arith, n));
 }
 
@@ -277,6 +294,7 @@ shown_more to target e ops n op old new split at aim there h k = record {
   frames = subst (AllByRecursion (KeepsFrames ops)) (sym (ap (flat_map kept_of) k.ops ∙ flat_both kept_of old.ops k.more))
       (each_append (KeepsFrames ops) (flat_map kept_of old.ops) (flat_map kept_of k.more) h.frames (each_weaker (IsKeptOf op old.guard) (KeepsFrames ops) kept (flat_map kept_of k.more) k.frames));
   jumps = subst (AllByRecursion (IsOfJump ops)) (sym k.ops) (each_append (IsOfJump ops) old.ops k.more h.jumps (each_weaker (IsJumpOf op) (IsOfJump ops) (jump_of ops n op at) k.more k.jumps));
+  exceptions = subst (AllByRecursion KeepsNoException) (sym k.ops) (each_append KeepsNoException old.ops k.more h.exceptions k.exceptions);
   left = λ j q m w z. let same : j ≡ n = omega (arith, m) in k.leaves (subst (λ x. ends (part_of x.code) ≡ true) (some_same (sym w ∙ ap (slice_get ops) same ∙ at)) z);
 }
   where
@@ -305,6 +323,7 @@ shows_end to target e ops n o h few ended = record {
   held = h.held;
   frames = h.frames;
   jumps = h.jumps;
+  exceptions = h.exceptions;
 }
   where
     by : Ending to target o → EndsWith to target o.at_end o.ops
@@ -320,5 +339,6 @@ shows_all to target e ops n o h all = record {
   held = h.held;
   frames = h.frames;
   jumps = h.jumps;
+  exceptions = h.exceptions;
   ending = λ l. (shows_end to target e ops n o h (omega (arith, all)) (h.left l.before l.last (all ∙ l.long) l.there l.ends)).ending l;
 }

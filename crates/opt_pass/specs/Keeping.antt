@@ -5,7 +5,7 @@ use Rattle.trace_ops.specs.Classes.{is_guard}
 use Rattle.trace_ops.specs.Pieces.{is_end, results_of, guards_of}
 use Rattle.trace_ops.specs.Rules.{ends}
 use Rattle.trace_ops.specs.declared.piece.PieceId.{PieceId}
-use Rattle.opt_pass.specs.Contract.{kept_of, HasEntries, HasFramesOf, IsEnd, GoesOn, EndsWith, own_size, cost_of}
+use Rattle.opt_pass.specs.Contract.{kept_of, HasEntries, HasFramesOf, KeepsNoException, IsEnd, GoesOn, EndsWith, own_size, cost_of}
 use Rattle.trace_ops.specs.declared.code.OpCode.{OpCode}
 use Rattle.trace_ops.specs.declared.facts.Part.{Part}
 use Rattle.trace_ops.specs.declared.facts.Part.TheVariants as part
@@ -143,6 +143,7 @@ pub record Printed (op : Op) (old new : Pass) : Type 0 where
   pub frames : AllByRecursion (IsKeptOf op old.guard) (flat_map kept_of more)
   pub slots : AllByRecursion (IsLeftAt op old) late
   pub jumps : AllByRecursion (IsJumpOf op) more
+  pub exceptions : AllByRecursion KeepsNoException more
   pub numbered : length (flat_map guards_of more) ≤ counted (is_guard op.code)
   pub pairs : IsPairOf op.code more
 
@@ -220,6 +221,7 @@ pub record Shows (to : PieceId) (target : List BoxId) (e : Entry) (ops : List Op
   pub held : AllByRecursion (λ x. IsBare x.1) o.guards
   pub frames : HasFramesOf ops o.ops
   pub jumps : AllByRecursion (IsOfJump ops) o.ops
+  pub exceptions : AllByRecursion KeepsNoException o.ops
 
 -- the piece is formed, its guards are the trace's and stand once, and overflow is tested where it is set
 pub record IsBuilt (set : TraceSet) (to : PieceId) (target label : List BoxId) (ops : List Op) (o : Pass) : Type 0 where

@@ -1,5 +1,6 @@
 //! The pass over a straight trace.
 ghost use Rattle.std.specs.Prelude.{◌≡◌, ℕ, ◌+◌, ◌<◌, ◌≤◌, ◌^◌, List, Option, Some, OnOk, IfOk, length, map, false, slice_get};
+ghost use Rattle.std.specs.List.{AllByRecursion};
 ghost use Rattle.trace_ops.specs.Facts.{part_of as part};
 ghost use Rattle.trace_ops.specs.declared.facts.Part.TheVariants as parts;
 ghost use Rattle.trace_ops.specs.declared.trace.BoxId.{BoxId};
@@ -10,7 +11,7 @@ ghost use Rattle.trace_ops.specs.Sound.{IsFormed};
 ghost use Rattle.trace_ops.specs.declared.piece.PieceId.{PieceId};
 ghost use Rattle.trace_meaning.specs.Recorded.{inputs_of, ops_at};
 ghost use Rattle.opt_meaning.specs.Leaving.{Simulates};
-ghost use Rattle.opt_pass.specs.Contract.{JumpsTo, IsOf, HasEntries, EndsWith, HasFramesOf, IsSmall};
+ghost use Rattle.opt_pass.specs.Contract.{JumpsTo, IsOf, HasEntries, EndsWith, HasFramesOf, KeepsNoException, IsSmall};
 ghost use Rattle.opt_pass.specs.Counting.{AddsFewConstants};
 ghost use Rattle.opt_pass.specs.Inputs.{HasInputs, AreLawful};
 ghost use Rattle.opt_pass.specs.Recording.{HaveSlots, JumpsWithTrace};
@@ -152,6 +153,7 @@ pub fn optimise(
     ensures frames { IfOk result (λ o. HasFramesOf (ops_at checked.now id.trace) o.piece.ops) }
     ensures slots { IfOk result (λ o. HaveSlots (ops_at checked.now id.trace) o.at_guards) }
     ensures jumps { IfOk result (λ o. JumpsWithTrace (ops_at checked.now id.trace) o.piece.ops) }
+    ensures exceptions { IfOk result (λ o. AllByRecursion KeepsNoException o.piece.ops) }
     ensures constants { IfOk result (λ o. AddsFewConstants checked.now id.trace entry.now o.piece o.at_guards o.at_end) }
 {
     laws_hold();

@@ -1,12 +1,13 @@
 -- A trace whose pieces are added.
 use Rattle.std.proofs.Common.{◌≡◌, ◌≢◌, ◌⊎◌, inl, inr, ℕ, zero, suc, ◌+◌, ◌<◌, ◌≤◌, Bool, true, false, if◌then◌else◌, ◌==◌, List, [], ◌∷◌, ◌++◌, Option, Some, None, length, length-set, map, slice_get, slice_set, refl, sym, ap, ◌∙◌, subst, arith}
 use Rattle.std.specs.Bool.{Decides}
+use Rattle.std.specs.Option.{IsSomeAnd}
 use Rattle.std.specs.List.{AllByRecursion, AllZip, flat_map}
 use Rattle.std.proofs.lemmas.Bool.Decides.{eqb_tells}
 use Rattle.std.proofs.lemmas.Option.{slice_get_within}
-use Rattle.lists.specs.Has.{Has}
-use Rattle.lists.proofs.Eaches.{each_append}
-use Rattle.lists.proofs.Membership.{has_left, has_right, has_cases}
+use Rattle.lists.specs.Has.{Has, IsOnce}
+use Rattle.lists.proofs.Eaches.{each_append, each_weaker}
+use Rattle.lists.proofs.Membership.{has_left, has_right, has_cases, each_has}
 use Rattle.lists.proofs.Options.{some_same, none_some}
 use Rattle.lists.proofs.Places.{get_set_same, get_set_other}
 use Rattle.trace_ops.specs.declared.trace.Trace.{Trace}
@@ -19,8 +20,9 @@ use Rattle.trace_meaning.specs.Cuts.{is_bridge_of}
 use Rattle.opt_meaning.specs.Admits.{entry_for}
 use Rattle.opt_meaning.specs.Meeting.{Made, made_at, IsEntered}
 use Rattle.opt_meaning.specs.Pieces.{same_piece, preamble}
-use Rattle.loop_peel.specs.Peeling.{IsLoop, IsPieceOf, left_by, kept_at, loop_entry}
-use Rattle.opt_set.specs.Optimised.{Left, of_trace, IsOwnPiece, IsLeftOf, HasPieces, Holds}
+use Rattle.loop_peel.specs.Peeling.{IsLoop, IsBridge, IsPieceOf, left_by, kept_at, loop_entry}
+use Rattle.opt_set.specs.Optimised.{Left, of_trace, name_of, IsOwnPiece, IsBehind, IsLeftOf, HasPieces, Holds}
+use Rattle.opt_set.proofs.Halves.{once_added, behind_more, behind_new}
 use Rattle.opt_set.proofs.Found.{named, first_from, found_cases, found_here, not_found, entered_left, entered_right, made_first, left_first, of_both, of_all, of_others}
 
 append_none : {X : Type 0} (xs : List X) → xs ++ [] ≡ xs
@@ -69,12 +71,14 @@ module _ (tell : (a b : PieceId) → Decides (same_piece a b) (a ≡ b)) (set : 
       | inr same ↦ absurd (other (subst (λ (y : Trace). IsLoop y.origin) (some_same (sym there ∙ ap (slice_get set.traces) same ∙ at)) loop))
     ];
     bridges = h.bridges;
+    behind = h.behind;
+    once = h.once;
     parents = h.parents;
     attached_has = h.attached_has;
     has_attached = h.has_attached;
   }
 
-  module _ (b : ℕ) (free : slice_get left b ≡ Some None) (from : List (Half × Entry)) (ns : List Made) (z : AllZip (λ x m. IsPieceOf set b x.0 x.1 m) from ns) (xs : Left) (gives : xs ≡ flat_map left_by ns) where
+  module _ (b : ℕ) (free : slice_get left b ≡ Some None) (from : List (Half × Entry)) (ns : List Made) (z : AllZip (λ x m. IsPieceOf set b x.0 x.1 m) from ns) (halves : IsOnce (map (λ (x : Half × Entry). x.0) from)) (xs : Left) (gives : xs ≡ flat_map left_by ns) where
     abbrev later : List (Option Left)
     later = slice_set left b (Some xs)
 
@@ -118,6 +122,18 @@ module _ (tell : (a b : PieceId) → Decides (same_piece a b) (a ≡ b)) (set : 
     each_now : AllByRecursion (IsOwnPiece set) (ms ++ ns)
     each_now = each_append (IsOwnPiece set) ms ns h.each (own_pieces set b from ns z)
 
+    once_now : IsOnce (map name_of (ms ++ ns))
+    once_now = once_added set b from ms ns z halves none_yet h.once
+
+    abbrev BehindIn : List Made → Made → Type 0
+    BehindIn all m = IsBridge set m.piece.id.trace → IsBehind set all m
+
+    behind_now : ((m : Made) → Has ns m → BehindIn (ms ++ ns) m) → AllByRecursion (BehindIn (ms ++ ns)) (ms ++ ns)
+    behind_now new =
+        each_append (BehindIn (ms ++ ns)) ms ns
+        (each_weaker (BehindIn ms) (BehindIn (ms ++ ns)) (λ m f bridge. behind_more set ms ns m (f bridge)) ms h.behind)
+        (each_has (BehindIn (ms ++ ns)) ns new)
+
     long_now : length later ≡ length set.traces
     long_now = length-set left b (Some xs) ∙ h.long
 
@@ -132,6 +148,8 @@ module _ (tell : (a b : PieceId) → Decides (same_piece a b) (a ≡ b)) (set : 
         | inr same ↦ subst (λ y. HasPieces later y × IsEntered (ms ++ ns) (preamble y) (loop_entry set y)) (sym same) ((xs, here), first_now)
       ];
       bridges = old_bridges;
+      behind = behind_now (λ m w bridge. absurd (no_bridge (subst (IsBridge set) (all_of_it set b from ns z m w) bridge)));
+      once = once_now;
       parents = λ c w p n comes. keeps p (h.parents c w p n comes);
       attached_has = λ c w. keeps c (h.attached_has c w);
       has_attached = λ c x w there other. elim (eqb_tells c b) [
@@ -140,6 +158,9 @@ module _ (tell : (a b : PieceId) → Decides (same_piece a b) (a ≡ b)) (set : 
       ];
     }
       where
+        no_bridge : IsBridge set b → ⊥
+        no_bridge bridge = subst (λ o. IsSomeAnd o (λ (y : Trace). IsLoop y.origin → ⊥)) at bridge loop
+
         first_now : IsEntered (ms ++ ns) (preamble b) (loop_entry set b)
         first_now =
             entered_right ms ns (preamble b) (loop_entry set b) (not_found tell ms (preamble b) none_yet)
@@ -147,8 +168,8 @@ module _ (tell : (a b : PieceId) → Decides (same_piece a b) (a ≡ b)) (set : 
             (ap (first_from b half.Pre) is ∙ ap (λ (y : Bool). if y then Some (loop_entry set b) else None) ((tell (named b half.Pre) (named b half.Pre)).1 refl)))
 
     -- a bridge, from what its guard leaves
-    pub bridge_added : (t : Trace) → slice_get set.traces b ≡ Some t → ((p n : ℕ) → is_bridge_of set.traces p n b ≡ true → (ys : Left) × (slice_get left p ≡ Some (Some ys)) × (from ≡ kept_at n ys)) → Holds set k (attached ++ b ∷ []) later (ms ++ ns)
-    bridge_added t at from_guard = record {
+    pub bridge_added : (t : Trace) → slice_get set.traces b ≡ Some t → (parent guard : ℕ) → is_bridge_of set.traces parent guard b ≡ true → ((p n : ℕ) → is_bridge_of set.traces p n b ≡ true → (ys : Left) × (slice_get left p ≡ Some (Some ys)) × (from ≡ kept_at n ys)) → Holds set k (attached ++ b ∷ []) later (ms ++ ns)
+    bridge_added t at parent guard leaves from_guard = record {
       each = each_now;
       long = long_now;
       left_is = left_now;
@@ -160,6 +181,8 @@ module _ (tell : (a b : PieceId) → Decides (same_piece a b) (a ≡ b)) (set : 
           | inr never ↦ absurd never
         ]
       ];
+      behind = behind_now (λ m w bridge. behind_new set b parent guard from ms ns z leaves kept m w);
+      once = once_now;
       parents = λ c w p n comes. elim (has_cases attached (b ∷ []) c w) [
         | inl old ↦ keeps p (h.parents c old p n comes)
         | inr one ↦ elim one [
@@ -180,6 +203,9 @@ module _ (tell : (a b : PieceId) → Decides (same_piece a b) (a ≡ b)) (set : 
       ];
     }
       where
+        kept : from ≡ kept_at guard (flat_map left_by (of_trace parent ms))
+        kept = let g = from_guard parent guard leaves in g.2 ∙ ap (kept_at guard) (h.left_is parent (Some g.0) g.1)
+
         new_bridge : (q : PieceId) (m : Made) (n : ℕ) (e : Entry) → made_at (ms ++ ns) q ≡ Some m → entry_for m.guards n ≡ Some e → is_bridge_of set.traces q.trace n b ≡ true → IsEntered (ms ++ ns) (named b q.half) e
         new_bridge q m n e is found comes =
             let g = from_guard q.trace n comes in

@@ -5,7 +5,7 @@ use Rattle.std.specs.Option.{IsSome, IsSomeAnd, option_and_then}
 use Rattle.std.specs.List.{AllByRecursion, AllZip, flat_map}
 use Rattle.std.proofs.lemmas.Bool.Decides.{Decides-eqb}
 use Rattle.std.proofs.lemmas.Option.{slice_get_within}
-use Rattle.lists.specs.Has.{Has}
+use Rattle.lists.specs.Has.{Has, IsOnce}
 use Rattle.lists.proofs.Eaches.{each_append}
 use Rattle.lists.proofs.Options.{some_same, none_some}
 use Rattle.lists.proofs.Places.{get_some}
@@ -26,10 +26,11 @@ use Rattle.opt_meaning.specs.Meeting.{Made, pieces_of}
 use Rattle.opt_meaning.specs.Pieces.{same_piece, all_pieces}
 use Rattle.loop_peel.specs.Peeling.{IsLoop, IsBridge, IsPieceOf, ArePieces, in_half, left_by, kept_if, kept_at, guard_from, guard_of}
 use Rattle.loop_peel.specs.Serving.{CanEnter, IsLeft, EntriesServe}
-use Rattle.opt_set.specs.Attaching.{LacksParent, IsGranted}
+use Rattle.opt_set.specs.Attaching.{LacksParent, IsGranted, IsOneMore}
 use Rattle.opt_set.specs.Optimised.{Left, Optimised, loops_from, IsTraceAt, of_trace, IsOwnPiece, IsLeftOf, HasPieces, left_in, left_of, with_bridge, Holds, IsOptimised}
 use Rattle.opt_set.proofs.Adding.{bridge_added}
-use Rattle.opt_set.proofs.Stepping.{pieces_more, trace_at}
+use Rattle.opt_set.proofs.Halves.{left_once}
+use Rattle.opt_set.proofs.Stepping.{pieces_more, bridge_at}
 
 false_true : false ≡ true → ⊥
 false_true e = cc
@@ -185,14 +186,19 @@ module _ (set : TraceSet) (o : Optimised) (i : IsOptimised set o) (well : IsWell
   is_attached tell xs free e new at_guards a =
       let from = kept_at (guard_of (slice_get set.traces b)) xs in
       let here : slice_get o.left way.parent ≡ Some (Some xs) = left_some (slice_get o.left way.parent) xs (sym parent_left ∙ e) in
+      let is : xs ≡ flat_map left_by (of_trace way.parent i.made) = i.holds.left_is way.parent (Some xs) here in
+      let guard : guard_of (slice_get set.traces b) ≡ way.guard = guard_is set b t at way in
+      let halves : IsOnce (map (λ (x : Half × Entry). x.0) from) =
+      subst (λ n. IsOnce (map (λ (x : Half × Entry). x.0) (kept_at n xs))) (sym guard)
+      (subst (λ ys. IsOnce (map (λ (x : Half × Entry). x.0) (kept_at way.guard ys))) (sym is) (left_once set way.guard way.parent i.made i.holds.each i.holds.once)) in
       record {
         made = i.made ++ a.made;
         pieces = pieces_more o.traces new i.made a.made i.pieces a.pieces_are;
         traces =
-            subst (λ (ks : List ℕ). AllZip IsTraceAt ks (o.traces ++ new ∷ [])) (append_assoc (loops_from 0 set.traces) o.attached (b ∷ []))
-            (zip_push IsTraceAt (loops_from 0 set.traces ++ o.attached) o.traces b new i.traces (trace_at set b from new at_guards a));
+            subst (λ (ks : List ℕ). AllZip (IsTraceAt set) ks (o.traces ++ new ∷ [])) (append_assoc (loops_from 0 set.traces) o.attached (b ∷ []))
+            (zip_push (IsTraceAt set) (loops_from 0 set.traces ++ o.attached) o.traces b new i.traces (bridge_at set b from new at_guards a t at other));
         holds =
-            bridge_added tell set (length set.traces) o.attached o.left i.made i.holds b (is_free free) from a.made a.each at_guards a.guards_are t at
+            bridge_added tell set (length set.traces) o.attached o.left i.made i.holds b (is_free free) from a.made a.each halves at_guards a.guards_are t at way.parent way.guard (is_from set b t at way)
             (λ p n comes.
             let q = only_from set b t at way p n comes in
             (xs, ap (slice_get o.left) q.0 ∙ here, ap (λ k. kept_at k xs) (guard_is set b t at way ∙ sym q.1)));
@@ -238,6 +244,9 @@ module _ (set s : TraceSet) (same : s ≡ set) (o : Optimised) (i : IsOptimised 
       → (new : OptTrace) (at_guards : Left) → ArePieces set b (kept_at (guard_of (slice_get set.traces b)) xs) new.pieces at_guards → IsOptimised set (with_bridge o b new at_guards)
   attached_so tell parent is xs free e new at_guards a =
       is_attached set o i well b it.trace it.there it.other tell xs (sym free) (ap (left_of o.left) (sym (parent_so parent is)) ∙ sym e) new at_guards a
+
+  pub one_more_so : None ≡ left_of o.left (Some b) → (new : OptTrace) (at_guards : Left) → IsOneMore o (with_bridge o b new at_guards)
+  one_more_so free new at_guards = record { bridge = b; pieces = new; left = at_guards; free = is_free set o i well b it.trace it.there it.other (sym free); is = refl }
 
   pub room_so : b < length o.left
   room_so = subst (λ n. b < n) (sym i.holds.long) (slice_get_within set.traces b it.trace it.there)

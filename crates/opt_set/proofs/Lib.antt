@@ -1,4 +1,6 @@
 mod Found
+mod Halves
+mod TakenBack
 mod Adding
 mod Whole
 mod Stepping

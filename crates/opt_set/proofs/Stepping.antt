@@ -22,7 +22,7 @@ use Rattle.opt_meaning.specs.Meeting.{Made, pieces_of}
 use Rattle.opt_meaning.specs.Pieces.{same_piece, all_pieces}
 use Rattle.loop_peel.specs.Peeling.{IsLoop, IsPieceOf, ArePieces, loop_entry}
 use Rattle.opt_set.specs.Loops.{IsMadeTo}
-use Rattle.opt_set.specs.Optimised.{Left, Optimised, loop_if, loops_from, IsTraceAt, of_trace, IsLeftOf, HasPieces, with_loop, Holds, IsOptimised}
+use Rattle.opt_set.specs.Optimised.{Left, Optimised, loop_if, loops_from, AreOfLoop, IsTraceAt, of_trace, IsLeftOf, HasPieces, with_loop, Holds, IsOptimised}
 use Rattle.opt_set.proofs.Adding.{skipped, loop_added}
 
 append_assoc : {X : Type 0} (xs ys zs : List X) → (xs ++ ys) ++ zs ≡ xs ++ (ys ++ zs)
@@ -56,8 +56,23 @@ of_the_trace set p [] (m ∷ ns) z = absurd z
 of_the_trace set p (x ∷ from) [] z = absurd z
 of_the_trace set p (x ∷ from) (m ∷ ns) z = (ap (λ (q : PieceId). q.trace) z.0.name, of_the_trace set p from ns z.1)
 
-pub trace_at : (set : TraceSet) (p : ℕ) (from : List (Half × Entry)) (t : OptTrace) (at_guards : Left) → ArePieces set p from t.pieces at_guards → IsTraceAt p t
-trace_at set p from t at_guards a = subst (AllByRecursion (λ (piece : Piece). piece.id.trace ≡ p)) (sym a.pieces_are) (of_the_trace set p from a.made a.each)
+pub bridge_at : (set : TraceSet) (p : ℕ) (from : List (Half × Entry)) (t : OptTrace) (at_guards : Left) → ArePieces set p from t.pieces at_guards
+    → (x : Trace) → slice_get set.traces p ≡ Some x → (IsLoop x.origin → ⊥) → IsTraceAt set p t
+bridge_at set p from t at_guards a x at other = (
+  subst (AllByRecursion (λ (piece : Piece). piece.id.trace ≡ p)) (sym a.pieces_are) (of_the_trace set p from a.made a.each),
+  λ y there loop. absurd (other (subst (λ (z : Trace). IsLoop z.origin) (some_same (sym there ∙ at)) loop)),
+)
+
+loop_alone : (set : TraceSet) (p : ℕ) (e : Entry) (ns : List Made) → AllZip (λ (x : Half × Entry) (m : Made). IsPieceOf set p x.0 x.1 m) ((half.Pre, e) ∷ []) ns → AreOfLoop p (pieces_of ns)
+loop_alone set p e [] z = absurd z
+loop_alone set p e (m ∷ []) z = z.0.name
+loop_alone set p e (m ∷ n ∷ ns) z = absurd z.1
+
+loop_at : (set : TraceSet) (p : ℕ) (e : Entry) (t : OptTrace) (at_guards : Left) → ArePieces set p ((half.Pre, e) ∷ []) t.pieces at_guards → IsTraceAt set p t
+loop_at set p e t at_guards a = (
+  subst (AllByRecursion (λ (piece : Piece). piece.id.trace ≡ p)) (sym a.pieces_are) (of_the_trace set p ((half.Pre, e) ∷ []) a.made a.each),
+  λ x at loop. subst (AreOfLoop p) (sym a.pieces_are) (loop_alone set p e a.made a.each),
+)
 
 -- Loops
 
@@ -87,7 +102,7 @@ module _ (tell : (a b : PieceId) → Decides (same_piece a b) (a ≡ b)) (set : 
   stepped_over other = record {
     made = h.made;
     pieces = h.pieces;
-    traces = subst (λ (ks : List ℕ). AllZip IsTraceAt ks o.traces) (sym (next_loops set k t at ∙ ap (λ l. loops_from 0 (take k set.traces) ++ l) (no_loop t.origin k other) ∙ append_none (loops_from 0 (take k set.traces)))) h.traces;
+    traces = subst (λ (ks : List ℕ). AllZip (IsTraceAt set) ks o.traces) (sym (next_loops set k t at ∙ ap (λ l. loops_from 0 (take k set.traces) ++ l) (no_loop t.origin k other) ∙ append_none (loops_from 0 (take k set.traces)))) h.traces;
     none = h.none;
     holds = skipped tell set k [] o.left h.made h.holds t at other;
     free = λ p le lt. h.free p (omega (arith, le)) lt;
@@ -100,10 +115,10 @@ module _ (tell : (a b : PieceId) → Decides (same_piece a b) (a ≡ b)) (set : 
     made = h.made ++ a.made;
     pieces = pieces_more o.traces new h.made a.made h.pieces a.pieces_are;
     traces =
-        subst (λ (ks : List ℕ). AllZip IsTraceAt ks (o.traces ++ new ∷ [])) (sym (next_loops set k t at ∙ ap (λ q. loops_from 0 (take k set.traces) ++ loop_if q k) loop))
-        (zip_push IsTraceAt (loops_from 0 (take k set.traces)) o.traces k new h.traces (trace_at set k ((half.Pre, loop_entry set k) ∷ []) new at_guards a));
+        subst (λ (ks : List ℕ). AllZip (IsTraceAt set) ks (o.traces ++ new ∷ [])) (sym (next_loops set k t at ∙ ap (λ q. loops_from 0 (take k set.traces) ++ loop_if q k) loop))
+        (zip_push (IsTraceAt set) (loops_from 0 (take k set.traces)) o.traces k new h.traces (loop_at set k (loop_entry set k) new at_guards a));
     none = h.none;
-    holds = loop_added tell set k [] o.left h.made h.holds k (h.free k (omega arith) (slice_get_within set.traces k t at)) ((half.Pre, loop_entry set k) ∷ []) a.made a.each at_guards a.guards_are t at loop refl refl;
+    holds = loop_added tell set k [] o.left h.made h.holds k (h.free k (omega arith) (slice_get_within set.traces k t at)) ((half.Pre, loop_entry set k) ∷ []) a.made a.each ((λ e. e), tt) at_guards a.guards_are t at loop refl refl;
     free = λ p le lt. get_set_other o.left k p (Some at_guards) (behind p le) ∙ h.free p (omega (arith, le)) lt;
   }
     where
@@ -142,6 +157,8 @@ none_holds set = record {
   left_is = λ p o e. subst (IsLeftOf [] p) (sym (same_got (length set.traces) p None o e)) refl;
   loops = λ p t lt at loop. absurd (below_none p lt);
   bridges = λ b w. absurd w;
+  behind = tt;
+  once = tt;
   parents = λ b w. absurd w;
   attached_has = λ b w. absurd w;
   has_attached = λ b t w at other. absurd (none_is (same_got (length set.traces) b None (Some w.0) w.1));
@@ -155,7 +172,7 @@ pub none_yet : (set : TraceSet) (n : ℕ) (o : Optimised) → n ≡ length set.t
 none_yet set n o long traces attached left = record {
   made = [];
   pieces = ap all_pieces traces;
-  traces = subst (λ (ks : List ℕ). AllZip IsTraceAt ks o.traces) (sym (ap (loops_from 0) (take_none set.traces))) (subst (AllZip IsTraceAt []) (sym traces) tt);
+  traces = subst (λ (ks : List ℕ). AllZip (IsTraceAt set) ks o.traces) (sym (ap (loops_from 0) (take_none set.traces))) (subst (AllZip (IsTraceAt set) []) (sym traces) tt);
   none = attached;
   holds = subst (λ (l : List (Option Left)). Holds set 0 [] l []) (sym now) (none_holds set);
   free = λ p le lt. ap (λ l. slice_get l p) now ∙ got_same (length set.traces) p None lt;
@@ -173,7 +190,7 @@ all_made set k o all h = record {
   made = h.made;
   pieces = h.pieces;
   traces =
-      subst (λ (ks : List ℕ). AllZip IsTraceAt ks o.traces)
+      subst (λ (ks : List ℕ). AllZip (IsTraceAt set) ks o.traces)
       (ap (λ n. loops_from 0 (take n set.traces)) all ∙ ap (loops_from 0) (take_whole set.traces) ∙ sym (append_none (loops_from 0 set.traces)) ∙ ap (λ l. loops_from 0 set.traces ++ l) (sym h.none))
       h.traces;
   holds = subst (λ (l : List ℕ). Holds set (length set.traces) l o.left h.made) (sym h.none) (subst (λ n. Holds set n [] o.left h.made) all h.holds);

@@ -10,7 +10,7 @@ use Rattle.opt_set.specs.Optimised.{Optimised, loops_from, IsTraceAt, Holds}
 pub record IsMadeTo (set : TraceSet) (k : ℕ) (o : Optimised) : Type 0 where
   pub made : List Made
   pub pieces : all_pieces o.traces ≡ pieces_of made
-  pub traces : AllZip IsTraceAt (loops_from 0 (take k set.traces)) o.traces
+  pub traces : AllZip (IsTraceAt set) (loops_from 0 (take k set.traces)) o.traces
   pub none : o.attached ≡ []
   pub holds : Holds set k [] o.left made
   pub free : (p : ℕ) → k ≤ p → p < length set.traces → slice_get o.left p ≡ Some None

@@ -17,12 +17,12 @@ use Rattle.trace_ops.specs.Constants.{HasWords}
 use Rattle.trace_ops.specs.Sound.{IsSound}
 use Rattle.trace_ops.specs.WellFormed.{IsWellFormed}
 use Rattle.trace_meaning.specs.Cuts.{is_bridge_of}
-use Rattle.lists.specs.Has.{Has}
+use Rattle.lists.specs.Has.{Has, IsOnce}
 use Rattle.opt_meaning.specs.Admits.{entry_for}
 use Rattle.opt_meaning.specs.Meeting.{Made, made_at, pieces_of, IsEntered}
 use Rattle.opt_meaning.specs.Pieces.{piece_at, all_pieces, preamble}
 use Rattle.opt_promise.specs.Promise.{AreMade}
-use Rattle.loop_peel.specs.Peeling.{IsLoop, IsPieceOf, left_by, loop_entry}
+use Rattle.loop_peel.specs.Peeling.{IsLoop, IsBridge, IsPieceOf, left_by, loop_entry}
 
 -- What there is
 
@@ -50,9 +50,17 @@ loops_from k (t ∷ ts) = loop_if t.origin k ++ loops_from (k + 1) ts
 abbrev pub places_of : TraceSet → List ℕ → List ℕ
 places_of set attached = loops_from 0 set.traces ++ attached
 
--- all pieces of the entry are of this trace
-abbrev pub IsTraceAt : ℕ → OptTrace → Type 0
-IsTraceAt p o = AllByRecursion (λ (piece : Piece). piece.id.trace ≡ p) o.pieces
+-- the preamble of the loop, alone or with its body
+abbrev pub AreOfLoop : ℕ → List Piece → Type 0
+AreOfLoop p (a ∷ []) = a.id ≡ preamble p
+AreOfLoop p (a ∷ b ∷ []) = (a.id ≡ preamble p) × (b.id ≡ record { trace = p; half = half.Body })
+AreOfLoop p ps = ⊥
+
+-- all pieces of the entry are of this trace; a loop has a preamble, and may have a body
+abbrev pub IsTraceAt : TraceSet → ℕ → OptTrace → Type 0
+IsTraceAt set p o =
+    AllByRecursion (λ (piece : Piece). piece.id.trace ≡ p) o.pieces
+    × ((t : Trace) → slice_get set.traces p ≡ Some t → IsLoop t.origin → AreOfLoop p o.pieces)
 
 -- the labels of pieces
 abbrev pub label_in : List Piece → PieceId → Option (List BoxId)
@@ -67,6 +75,18 @@ of_trace p (m ∷ ms) = if m.piece.id.trace == p then m ∷ of_trace p ms else o
 
 abbrev pub IsOwnPiece : TraceSet → Made → Type 0
 IsOwnPiece set m = IsPieceOf set m.piece.id.trace m.piece.id.half m.entry m
+
+abbrev pub name_of : Made → PieceId
+name_of m = m.piece.id
+
+-- the piece begins with what is known where the guard from which its bridge comes fails, in a piece of its half
+pub record IsBehind (set : TraceSet) (ms : List Made) (m : Made) : Type 0 where
+  pub parent : Made
+  pub guard : ℕ
+  pub there : Has ms parent
+  pub half : parent.piece.id.half ≡ m.piece.id.half
+  pub from : is_bridge_of set.traces parent.piece.id.trace guard m.piece.id.trace ≡ true
+  pub entry : Has parent.guards (guard, m.entry)
 
 abbrev pub IsLeftOf : List Made → ℕ → Option Left → Type 0
 IsLeftOf ms p None = of_trace p ms ≡ []
@@ -92,6 +112,10 @@ with_loop o p t xs = record { traces = o.traces ++ t ∷ []; attached = o.attach
 abbrev pub with_bridge : Optimised → ℕ → OptTrace → Left → Optimised
 with_bridge o b t xs = record { traces = o.traces ++ t ∷ []; attached = o.attached ++ b ∷ []; left = slice_set o.left b (Some xs) }
 
+-- with what its guards leave forgotten
+abbrev pub with_none : Optimised → ℕ → Optimised
+with_none o p = record { traces = o.traces; attached = o.attached; left = slice_set o.left p None }
+
 -- the pieces of the loops in front of place k, and of these bridges
 pub record Holds (set : TraceSet) (k : ℕ) (attached : List ℕ) (left : List (Option Left)) (ms : List Made) : Type 0 where
   pub each : AllByRecursion (IsOwnPiece set) ms
@@ -100,6 +124,9 @@ pub record Holds (set : TraceSet) (k : ℕ) (attached : List ℕ) (left : List (
   pub loops : (p : ℕ) (t : Trace) → p < k → slice_get set.traces p ≡ Some t → IsLoop t.origin → HasPieces left p × IsEntered ms (preamble p) (loop_entry set p)
   pub bridges : (b : ℕ) → Has attached b → (q : PieceId) (m : Made) (n : ℕ) (e : Entry) → made_at ms q ≡ Some m → entry_for m.guards n ≡ Some e → is_bridge_of set.traces q.trace n b ≡ true
       → IsEntered ms (record { trace = b; half = q.half }) e
+  -- a bridge has a piece only for a half in which its guard is kept, and no trace has two of one half
+  pub behind : AllByRecursion (λ (m : Made). IsBridge set m.piece.id.trace → IsBehind set ms m) ms
+  pub once : IsOnce (map name_of ms)
   pub parents : (b : ℕ) → Has attached b → (p n : ℕ) → is_bridge_of set.traces p n b ≡ true → HasPieces left p
   pub attached_has : (b : ℕ) → Has attached b → HasPieces left b
   pub has_attached : (b : ℕ) (t : Trace) → HasPieces left b → slice_get set.traces b ≡ Some t → (IsLoop t.origin → ⊥) → Has attached b
@@ -108,7 +135,7 @@ pub record Holds (set : TraceSet) (k : ℕ) (attached : List ℕ) (left : List (
 pub record IsOptimised (set : TraceSet) (o : Optimised) : Type 0 where
   pub made : List Made
   pub pieces : all_pieces o.traces ≡ pieces_of made
-  pub traces : AllZip IsTraceAt (places_of set o.attached) o.traces
+  pub traces : AllZip (IsTraceAt set) (places_of set o.attached) o.traces
   pub holds : Holds set (length set.traces) o.attached o.left made
 
 -- What that gives

@@ -4,9 +4,9 @@ ghost use Rattle.std.specs.Option.{IsSomeAnd, option_copied};
 ghost use Rattle.lists.specs.Has.{Has};
 ghost use Rattle.trace_ops.specs.declared.piece.OptTrace.{OptTrace};
 ghost use Rattle.loop_peel.specs.Peeling.{IsBridge};
-ghost use Rattle.opt_set.specs.Optimised.{IsOptimised, left_of, with_loop, with_bridge};
+ghost use Rattle.opt_set.specs.Optimised.{Optimised, IsOptimised, left_of, with_loop, with_bridge, with_none};
 ghost use Rattle.opt_set.specs.Loops.{IsMadeTo};
-ghost use Rattle.opt_set.specs.Attaching.{IsGranted};
+ghost use Rattle.opt_set.specs.Attaching.{IsGranted, IsOneMore};
 ghost use Rattle.opt_set.specs.Causes.{HasCause};
 
 use crate::fault::AttachFault;
@@ -78,6 +78,14 @@ impl OptimisedSet {
         Ok(())
     }
 
+    // The trace has no pieces.
+    fn clear(&mut self, trace: u32)
+        requires { trace < length self.old.left }
+        ensures { self.new ≡ with_none self.old trace }
+    {
+        self.left[trace as usize] = None;
+    }
+
     // Where the guards of a trace with pieces fail.
     fn left_at(&self, trace: Option<usize>) -> Option<&List<(Half, u32, Entry)>>
         ensures { option_copied result ≡ left_of self.now.left trace }
@@ -131,6 +139,7 @@ impl OptimisedSet {
         requires pieces { IsOptimised checked.now self.now }
         requires bridge { IsBridge checked.now bridge }
         ensures pieces { IfOk result (λ m. IsOptimised checked.now (with_bridge self.now bridge m.opt m.at_guards)) }
+        ensures one_more { IfOk result (λ m. IsOneMore self.now (with_bridge self.now bridge m.opt m.at_guards)) }
         ensures granted { IfOk result (λ m. IsGranted checked.now self.now.attached bridge) }
         ensures room { IfOk result (λ m. bridge < length self.now.left) }
         ensures cause { IfErr result (λ e. HasCause checked.now self.now.attached bridge e) }
@@ -167,6 +176,7 @@ impl OptimisedSet {
         ensures pieces { OnOk result (IsOptimised checked.now self.new) }
         ensures attached { OnOk result (self.new.attached ≡ self.old.attached ++ bridge ∷ []) }
         ensures added { OnOk result ((t : OptTrace) × (self.new.traces ≡ self.old.traces ++ t ∷ [])) }
+        ensures one_more { OnOk result (IsOneMore self.old self.new) }
         ensures granted { OnOk result (IsGranted checked.now self.old.attached bridge) }
         ensures cause { IfErr result (λ e. HasCause checked.now self.old.attached bridge e) }
         ensures kept { OnErr result (self.new ≡ self.old) }
@@ -175,6 +185,17 @@ impl OptimisedSet {
         match self.add_bridge(bridge, made) {
             Ok(()) => Ok(()),
             Err(_) => Err(AttachFault::OutOfMemory),
+        }
+    }
+
+    /// Takes back what was attached last, so that all is as it was before.
+    pub fn take_back(&mut self)
+        requires { (before : Optimised) × IsOneMore before self.old }
+        ensures { (before : Optimised) → IsOneMore before self.old → self.new ≡ before }
+    {
+        let _ = self.traces.pop();
+        if let Some(bridge) = self.attached.pop() {
+            self.clear(bridge);
         }
     }
 

@@ -57,7 +57,7 @@ pub record IsOptText (input text : List ℕ) : Type 0 where
   pub granted : Grants set [] session.lines bridges
   pub traces : List OptTrace
   pub written : text ≡ opt_text set traces
-  pub of : AllZip IsTraceAt (places_of set bridges) traces
+  pub of : AllZip (IsTraceAt set) (places_of set bridges) traces
   pub sound : AllByRecursion (IsSound set (label_in (all_pieces traces))) (all_pieces traces)
   pub made : List Made
   pub pieces : pieces_of made ≡ all_pieces traces

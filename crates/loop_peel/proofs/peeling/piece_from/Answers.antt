@@ -23,4 +23,5 @@ returns c =
       small = c.in_ok-made.ensures.small;
       values = c.in_ok-made.ensures.slots;
       jumps = c.in_ok-made.ensures.jumps;
+      exceptions = c.in_ok-made.ensures.exceptions;
     })

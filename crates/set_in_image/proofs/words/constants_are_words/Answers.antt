@@ -1,0 +1,12 @@
+use Rattle.std.proofs.Common.{rules, arith, ◌≡◌, ℕ, ◌+◌, ◌<◌, length, sym, subst}
+use Rattle.std.specs.List.{All, AllByRecursion}
+use Rattle.trace_ops.specs.declared.piece.Piece.{Piece}
+use Rattle.opt_meaning.specs.Worded.{OpHasWords}
+use Rattle.set_in_image.proofs.EachPiece.{each_step}
+use Rattle.set_in_image.proofs.words.constants_are_words.Goals as goal
+
+pub loop-trace-preserved : goal.loop-trace-preserved
+loop-trace-preserved c =
+    λ h. c.loop-trace.invariant
+    (each_step (λ (p : Piece). All OpHasWords p.ops) c.args.traces.now c.loop-trace.trace-index c.trace-item.result c.trace-item.result (omega (arith, c.loop-trace-test.true)) c.trace-item.is
+    (subst (λ ps. AllByRecursion (λ (p : Piece). All OpHasWords p.ops) ps) c.items.ensures c.pieces_have_words.ensures) h)

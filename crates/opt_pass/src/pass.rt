@@ -1,6 +1,5 @@
 //! The pass over a straight trace.
 ghost use Rattle.std.specs.Prelude.{◌≡◌, ℕ, ◌+◌, ◌<◌, ◌≤◌, ◌^◌, List, Option, Some, OnOk, IfOk, length, map, false, slice_get};
-ghost use Rattle.std.specs.List.{AllByRecursion};
 ghost use Rattle.trace_ops.specs.Facts.{part_of as part};
 ghost use Rattle.trace_ops.specs.declared.facts.Part.TheVariants as parts;
 ghost use Rattle.trace_ops.specs.declared.trace.BoxId.{BoxId};
@@ -11,13 +10,17 @@ ghost use Rattle.trace_ops.specs.Sound.{IsFormed};
 ghost use Rattle.trace_ops.specs.declared.piece.PieceId.{PieceId};
 ghost use Rattle.trace_meaning.specs.Recorded.{inputs_of, ops_at};
 ghost use Rattle.opt_meaning.specs.Leaving.{Simulates};
-ghost use Rattle.opt_pass.specs.Contract.{JumpsTo, IsOf, HasEntries, EndsWith, HasFramesOf, KeepsNoException, IsSmall};
+ghost use Rattle.opt_pass.specs.Contract.{JumpsTo, IsOf, HasEntries, EndsWith, HasFramesOf, IsSmall};
 ghost use Rattle.opt_pass.specs.Counting.{AddsFewConstants};
 ghost use Rattle.opt_pass.specs.Inputs.{HasInputs, AreLawful};
 ghost use Rattle.opt_pass.specs.Recording.{HaveSlots, JumpsWithTrace};
 ghost use Rattle.opt_pass.specs.Keeping.{KeepsAll, IsDone};
+ghost use Rattle.opt_pass.specs.Late.{shapes_now, IsStep};
+ghost use Rattle.opt_pass.specs.Virtual.{MakesStructure};
 
 use crate::laws::laws_hold;
+use crate::objects::{new_op, size_kinds, structure};
+use crate::settle::ready;
 use crate::start::{label_of, start};
 use crate::state::Pass;
 use crate::steps::{dropped_guard, finish_op, jump_op, kept_guard, plain_op};
@@ -78,6 +81,51 @@ fn record_op(pass: &mut Pass, alloc: Global, op: &Op) -> Result<(), AllocError>
     }
 }
 
+// All is settled, and then the operation is handled.
+fn handle(pass: &mut Pass, alloc: Global, table: &Table, op: &Op) -> Result<(), AllocError>
+    requires going { pass.old.ended ≡ false }
+    requires boxes { pass.old.next + length (shapes_now pass.old) + 1 < 2 ^ 32 }
+    requires guards { pass.old.guard + 1 < 2 ^ 32 }
+    ensures { OnOk result (IsStep table.now op.now pass.old pass.new) }
+{
+    ready(pass, alloc, table, op)?;
+    record_op(pass, alloc, op)
+}
+
+fn structure_op(
+    pass: &mut Pass,
+    alloc: Global,
+    table: &Table,
+    op: &Op,
+    of: BoxId,
+    size: u32,
+) -> Result<(), AllocError>
+    requires going { pass.old.ended ≡ false }
+    requires boxes { pass.old.next + length (shapes_now pass.old) + 1 < 2 ^ 32 }
+    requires guards { pass.old.guard + 1 < 2 ^ 32 }
+    requires virtuals { length pass.old.virtuals + 1 < 2 ^ 32 }
+    requires makes { MakesStructure op.now of size }
+    ensures { OnOk result (IsStep table.now op.now pass.old pass.new) }
+{
+    match size_kinds(alloc, table, size)? {
+        Some(kinds) => new_op(pass, table, op, of, size, kinds),
+        None => handle(pass, alloc, table, op),
+    }
+}
+
+fn step(pass: &mut Pass, alloc: Global, table: &Table, op: &Op) -> Result<(), AllocError>
+    requires going { pass.old.ended ≡ false }
+    requires boxes { pass.old.next + length (shapes_now pass.old) + 1 < 2 ^ 32 }
+    requires guards { pass.old.guard + 1 < 2 ^ 32 }
+    requires virtuals { length pass.old.virtuals + 1 < 2 ^ 32 }
+    ensures { OnOk result (IsStep table.now op.now pass.old pass.new) }
+{
+    match structure(op) {
+        Some((of, size)) => structure_op(pass, alloc, table, op, of, size),
+        None => handle(pass, alloc, table, op),
+    }
+}
+
 // What the operations become, from each pair that the entry admits.
 fn optimise_ops(
     alloc: Global,
@@ -96,7 +144,7 @@ fn optimise_ops(
         if pass.ended {
             return Ok(pass);
         }
-        record_op(&mut pass, alloc, op)?;
+        step(&mut pass, alloc, table, op)?;
     }
     Ok(pass)
 }
@@ -153,7 +201,6 @@ pub fn optimise(
     ensures frames { IfOk result (λ o. HasFramesOf (ops_at checked.now id.trace) o.piece.ops) }
     ensures slots { IfOk result (λ o. HaveSlots (ops_at checked.now id.trace) o.at_guards) }
     ensures jumps { IfOk result (λ o. JumpsWithTrace (ops_at checked.now id.trace) o.piece.ops) }
-    ensures exceptions { IfOk result (λ o. AllByRecursion KeepsNoException o.piece.ops) }
     ensures constants { IfOk result (λ o. AddsFewConstants checked.now id.trace entry.now o.piece o.at_guards o.at_end) }
 {
     laws_hold();

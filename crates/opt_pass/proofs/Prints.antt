@@ -1,8 +1,7 @@
 -- What is printed for one recorded operation.
-use Rattle.std.proofs.Common.{◌≡◌, ◌≢◌, ℕ, suc, ◌+◌, ◌≤◌, Bool, true, false, ◌⊎◌, List, [], ◌∷◌, ◌++◌, Option, Some, None, length, map, slice_get, refl, sym, ap, ◌∙◌, subst, arith, inl, inr}
+use Rattle.std.proofs.Common.{◌≡◌, ℕ, suc, ◌+◌, ◌≤◌, Bool, true, false, ◌⊎◌, List, [], ◌∷◌, ◌++◌, Option, Some, None, length, map, slice_get, refl, sym, ap, ◌∙◌, subst, arith, inl, inr}
 use Rattle.std.specs.List.{flat_map, sum_by}
 use Rattle.trace_ops.specs.declared.code.OpCode.{OpCode}
-use Rattle.trace_ops.specs.declared.code.OpCode.TheVariants as codes
 use Rattle.trace_ops.specs.declared.facts.Part.{Part}
 use Rattle.trace_ops.specs.declared.facts.Part.TheVariants as part
 use Rattle.trace_ops.specs.declared.trace.BoxId.{BoxId}
@@ -102,7 +101,6 @@ prints_nothing op o new going ops guards goes alone guard = record {
   frames = tt;
   slots = tt;
   jumps = tt;
-  exceptions = tt;
   numbered = omega arith;
   pairs = (alone_sets op.code alone, alone_reads op.code alone);
 }
@@ -132,13 +130,12 @@ prints_plain op o new to going ops guards goes is guard =
       frames = tt;
       slots = tt;
       jumps = (tt, tt);
-      exceptions = (tt, tt);
       numbered = omega arith;
       pairs = (refl, sym (performed_reads op.code is));
     }
 
-pub prints_guard : (op : Op) (o new : Pass) → o.ended ≡ false → new.ops ≡ o.ops ++ opt.Guard op.code (args_of o op.args) o.guard (snap_of o.names o.forward op.snapshot) ∷ [] → new.guards ≡ o.guards ++ (o.guard, entry_at (snap_of o.names o.forward op.snapshot)) ∷ [] → Goes o new → IsTested op.code → op.code ≢ codes.GuardNoException → new.guard ≡ o.guard + 1 → Printed op o new
-prints_guard op o new going ops guards goes is no_exception guard =
+pub prints_guard : (op : Op) (o new : Pass) → o.ended ≡ false → new.ops ≡ o.ops ++ opt.Guard op.code (args_of o op.args) o.guard (snap_of o.names o.forward op.snapshot) ∷ [] → new.guards ≡ o.guards ++ (o.guard, entry_at (snap_of o.names o.forward op.snapshot)) ∷ [] → Goes o new → IsTested op.code → new.guard ≡ o.guard + 1 → Printed op o new
+prints_guard op o new going ops guards goes is guard =
     let long : length (args_of o op.args) ≡ length op.args = long_map (meant o.names o.forward) op.args in
     let one : counted (is_guard op.code) ≡ 1 = one_counted (is_guard op.code) (tested_guards op.code is) in
     record {
@@ -159,7 +156,6 @@ prints_guard op o new going ops guards goes is no_exception guard =
       frames = ((refl, tested_guards op.code is, frames_shown o.names o.forward op.snapshot), tt);
       slots = ((refl, tested_guards op.code is, refl), tt);
       jumps = (tt, tt);
-      exceptions = (no_exception, tt);
       numbered = omega (arith, one);
       pairs = (sym (tested_sets op.code is), refl);
     }
@@ -183,7 +179,6 @@ prints_exit op o going is = record {
   frames = ((refl, ap guarding is, frames_shown o.names o.forward op.snapshot), tt);
   slots = ((refl, ap guarding is, refl), tt);
   jumps = (tt, tt);
-  exceptions = (tt, tt);
   numbered = let one : counted (is_guard op.code) ≡ 1 = one_counted (is_guard op.code) (ap guarding is) in omega (arith, one);
   pairs = (sym (ap overflowing is), sym (ap reading_overflow is));
 }
@@ -210,7 +205,6 @@ prints_jump op o going pre is = record {
   frames = tt;
   slots = tt;
   jumps = (is, tt);
-  exceptions = (tt, tt);
   numbered = omega arith;
   pairs = (sym (ap overflowing is), sym (ap reading_overflow is));
 }
@@ -234,7 +228,6 @@ prints_body op o going body is = record {
   frames = tt;
   slots = tt;
   jumps = (is, tt);
-  exceptions = (tt, tt);
   numbered = omega arith;
   pairs = (sym (ap overflowing is), sym (ap reading_overflow is));
 }
@@ -265,7 +258,6 @@ prints_finish op o going is =
       frames = tt;
       slots = tt;
       jumps = (tt, tt);
-      exceptions = (tt, tt);
       numbered = omega arith;
       pairs = (sym (ap overflowing is), sym (ap reading_overflow is));
     }

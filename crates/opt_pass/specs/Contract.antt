@@ -1,8 +1,7 @@
 -- What the pass is asked, and what it promises of a piece besides that it does what its trace does.
-use Rattle.std.specs.Prelude.{◌≡◌, ◌≢◌, ℕ, ◌+◌, ◌≤◌, true, false, if◌then◌else◌, List, [], ◌∷◌, ◌++◌, Some, length, map}
+use Rattle.std.specs.Prelude.{◌≡◌, ℕ, ◌+◌, ◌≤◌, true, false, if◌then◌else◌, List, [], ◌∷◌, ◌++◌, Some, length, map}
 use Rattle.std.specs.Option.{IsSomeAnd}
 use Rattle.std.specs.List.{AllByRecursion, AllZip, flat_map, sum_by}
-use Rattle.trace_ops.specs.declared.code.OpCode.TheVariants as codes
 use Rattle.trace_ops.specs.declared.facts.Part.TheVariants as part
 use Rattle.trace_ops.specs.declared.trace.BoxId.{BoxId}
 use Rattle.trace_ops.specs.declared.trace.Arg.TheVariants.{Of}
@@ -60,14 +59,6 @@ KeepsFrames ops x = IsSomeAnd (guard_in ops x.0) (λ (op : Op). AreFramesOf op.s
 -- each guard that the piece has keeps the frames that were recorded there: their names, places and numbers of slots
 abbrev pub HasFramesOf : List Op → List OptOp → Type 0
 HasFramesOf recorded ops = AllByRecursion (KeepsFrames recorded) (flat_map kept_of ops)
-
--- a guard on an exception always passes, and isn't kept
-abbrev pub KeepsNoException : OptOp → Type 0
-KeepsNoException (opt.Guard code args n snap) = code ≢ codes.GuardNoException
-KeepsNoException (opt.Exit n snap) = Unit {0}
-KeepsNoException (opt.Plain code result args d) = Unit {0}
-KeepsNoException (opt.Jump to args) = Unit {0}
-KeepsNoException (opt.Finish value) = Unit {0}
 
 -- The end
 

@@ -4,7 +4,10 @@
 mod entries;
 mod laws;
 mod names;
+mod objects;
+mod parts;
 mod pass;
+mod settle;
 mod snapshot;
 mod start;
 mod state;

@@ -1,6 +1,5 @@
 //! The pass over a straight trace.
 ghost use Rattle.std.specs.Prelude.{◌≡◌, ℕ, ◌+◌, ◌<◌, ◌≤◌, ◌^◌, List, Option, Some, OnOk, IfOk, length, map, false, slice_get};
-ghost use Rattle.std.specs.List.{AllByRecursion};
 ghost use Rattle.trace_ops.specs.Facts.{part_of as part};
 ghost use Rattle.trace_ops.specs.declared.facts.Part.TheVariants as parts;
 ghost use Rattle.trace_ops.specs.declared.trace.BoxId.{BoxId};
@@ -11,13 +10,20 @@ ghost use Rattle.trace_ops.specs.Sound.{IsFormed};
 ghost use Rattle.trace_ops.specs.declared.piece.PieceId.{PieceId};
 ghost use Rattle.trace_meaning.specs.Recorded.{inputs_of, ops_at};
 ghost use Rattle.opt_meaning.specs.Leaving.{Simulates};
-ghost use Rattle.opt_pass.specs.Contract.{JumpsTo, IsOf, HasEntries, EndsWith, HasFramesOf, KeepsNoException, IsSmall};
+ghost use Rattle.opt_pass.specs.Contract.{JumpsTo, IsOf, HasEntries, EndsWith, HasFramesOf, IsSmall};
 ghost use Rattle.opt_pass.specs.Counting.{AddsFewConstants};
 ghost use Rattle.opt_pass.specs.Inputs.{HasInputs, AreLawful};
 ghost use Rattle.opt_pass.specs.Recording.{HaveSlots, JumpsWithTrace};
 ghost use Rattle.opt_pass.specs.Keeping.{KeepsAll, IsDone};
+ghost use Rattle.opt_pass.specs.Late.{shapes_now, IsStep};
+ghost use Rattle.opt_pass.specs.Virtual.{MakesStructure, IsPart, ReadsField, WritesField};
 
 use crate::laws::laws_hold;
+use crate::objects::{new_op, size_kinds, structure};
+use crate::parts::{
+    Found, field_read, field_write, gives, is_made, part_at, read_op, takes, value_at, write_op,
+};
+use crate::settle::ready;
 use crate::start::{label_of, start};
 use crate::state::Pass;
 use crate::steps::{dropped_guard, finish_op, jump_op, kept_guard, plain_op};
@@ -28,7 +34,7 @@ use std::alloc::{AllocError, Global};
 use trace_check::Checked;
 use trace_meaning::lawful_legs_can_begin;
 use trace_ops::{
-    BoxId, Entry, List, Op, OpCode, Part, Piece, PieceId, Table, TraceSet, is_pure, part_of,
+    Arg, BoxId, Entry, List, Op, OpCode, Part, Piece, PieceId, Table, TraceSet, is_pure, part_of,
 };
 
 fn guard_op(pass: &mut Pass, alloc: Global, op: &Op) -> Result<(), AllocError>
@@ -78,6 +84,143 @@ fn record_op(pass: &mut Pass, alloc: Global, op: &Op) -> Result<(), AllocError>
     }
 }
 
+// All is settled, and then the operation is handled.
+fn handle(pass: &mut Pass, alloc: Global, table: &Table, op: &Op) -> Result<(), AllocError>
+    requires going { pass.old.ended ≡ false }
+    requires boxes { pass.old.next + length (shapes_now pass.old) + 1 < 2 ^ 32 }
+    requires guards { pass.old.guard + 1 < 2 ^ 32 }
+    ensures { OnOk result (IsStep table.now op.now pass.old pass.new) }
+{
+    ready(pass, alloc, table, op)?;
+    record_op(pass, alloc, op)
+}
+
+fn structure_op(
+    pass: &mut Pass,
+    alloc: Global,
+    table: &Table,
+    op: &Op,
+    of: BoxId,
+    size: u32,
+) -> Result<(), AllocError>
+    requires going { pass.old.ended ≡ false }
+    requires boxes { pass.old.next + length (shapes_now pass.old) + 1 < 2 ^ 32 }
+    requires guards { pass.old.guard + 1 < 2 ^ 32 }
+    requires virtuals { length pass.old.virtuals + 1 < 2 ^ 32 }
+    requires makes { MakesStructure op.now of size }
+    ensures { OnOk result (IsStep table.now op.now pass.old pass.new) }
+{
+    match size_kinds(alloc, table, size)? {
+        Some(kinds) => new_op(pass, table, op, of, size, kinds),
+        None => handle(pass, alloc, table, op),
+    }
+}
+
+// A read of a part that a result can be.
+fn read_step(
+    pass: &mut Pass,
+    alloc: Global,
+    table: &Table,
+    op: &Op,
+    of: BoxId,
+    base: Arg,
+    field: u32,
+) -> Result<(), AllocError>
+    requires going { pass.old.ended ≡ false }
+    requires boxes { pass.old.next + length (shapes_now pass.old) + 1 < 2 ^ 32 }
+    requires guards { pass.old.guard + 1 < 2 ^ 32 }
+    requires reads { ReadsField op.now of base field }
+    ensures { OnOk result (IsStep table.now op.now pass.old pass.new) }
+{
+    let Some(found) = part_at(pass, table, base, field) else {
+        return handle(pass, alloc, table, op);
+    };
+    if !gives(pass, of, found) {
+        return handle(pass, alloc, table, op);
+    }
+    read_op(pass, table, op, of, base, field, found)
+}
+
+// A write of a value that the part takes.
+fn write_part(
+    pass: &mut Pass,
+    alloc: Global,
+    table: &Table,
+    op: &Op,
+    base: Arg,
+    value: Arg,
+    field: u32,
+    found: Found,
+) -> Result<(), AllocError>
+    requires going { pass.old.ended ≡ false }
+    requires boxes { pass.old.next + length (shapes_now pass.old) + 1 < 2 ^ 32 }
+    requires guards { pass.old.guard + 1 < 2 ^ 32 }
+    requires writes { WritesField op.now base value field }
+    requires part { IsPart table.now pass.old base field found.object found.part found.value }
+    ensures { OnOk result (IsStep table.now op.now pass.old pass.new) }
+{
+    let Some(x) = value_at(pass, value) else {
+        return handle(pass, alloc, table, op);
+    };
+    if !takes(pass, x, found) {
+        return handle(pass, alloc, table, op);
+    }
+    if !is_made(pass.virtuals.shapes(), x) {
+        return handle(pass, alloc, table, op);
+    }
+    write_op(pass, table, op, base, value, field, found, x);
+    Ok(())
+}
+
+fn write_step(
+    pass: &mut Pass,
+    alloc: Global,
+    table: &Table,
+    op: &Op,
+    base: Arg,
+    value: Arg,
+    field: u32,
+) -> Result<(), AllocError>
+    requires going { pass.old.ended ≡ false }
+    requires boxes { pass.old.next + length (shapes_now pass.old) + 1 < 2 ^ 32 }
+    requires guards { pass.old.guard + 1 < 2 ^ 32 }
+    requires writes { WritesField op.now base value field }
+    ensures { OnOk result (IsStep table.now op.now pass.old pass.new) }
+{
+    match part_at(pass, table, base, field) {
+        Some(found) => write_part(pass, alloc, table, op, base, value, field, found),
+        None => handle(pass, alloc, table, op),
+    }
+}
+
+fn field_step(pass: &mut Pass, alloc: Global, table: &Table, op: &Op) -> Result<(), AllocError>
+    requires going { pass.old.ended ≡ false }
+    requires boxes { pass.old.next + length (shapes_now pass.old) + 1 < 2 ^ 32 }
+    requires guards { pass.old.guard + 1 < 2 ^ 32 }
+    ensures { OnOk result (IsStep table.now op.now pass.old pass.new) }
+{
+    if let Some((of, base, field)) = field_read(op) {
+        return read_step(pass, alloc, table, op, of, base, field);
+    }
+    if let Some((base, value, field)) = field_write(op) {
+        return write_step(pass, alloc, table, op, base, value, field);
+    }
+    handle(pass, alloc, table, op)
+}
+
+fn step(pass: &mut Pass, alloc: Global, table: &Table, op: &Op) -> Result<(), AllocError>
+    requires going { pass.old.ended ≡ false }
+    requires boxes { pass.old.next + length (shapes_now pass.old) + 1 < 2 ^ 32 }
+    requires guards { pass.old.guard + 1 < 2 ^ 32 }
+    requires virtuals { length pass.old.virtuals + 1 < 2 ^ 32 }
+    ensures { OnOk result (IsStep table.now op.now pass.old pass.new) }
+{
+    match structure(op) {
+        Some((of, size)) => structure_op(pass, alloc, table, op, of, size),
+        None => field_step(pass, alloc, table, op),
+    }
+}
+
 // What the operations become, from each pair that the entry admits.
 fn optimise_ops(
     alloc: Global,
@@ -96,7 +239,7 @@ fn optimise_ops(
         if pass.ended {
             return Ok(pass);
         }
-        record_op(&mut pass, alloc, op)?;
+        step(&mut pass, alloc, table, op)?;
     }
     Ok(pass)
 }
@@ -153,7 +296,6 @@ pub fn optimise(
     ensures frames { IfOk result (λ o. HasFramesOf (ops_at checked.now id.trace) o.piece.ops) }
     ensures slots { IfOk result (λ o. HaveSlots (ops_at checked.now id.trace) o.at_guards) }
     ensures jumps { IfOk result (λ o. JumpsWithTrace (ops_at checked.now id.trace) o.piece.ops) }
-    ensures exceptions { IfOk result (λ o. AllByRecursion KeepsNoException o.piece.ops) }
     ensures constants { IfOk result (λ o. AddsFewConstants checked.now id.trace entry.now o.piece o.at_guards o.at_end) }
 {
     laws_hold();

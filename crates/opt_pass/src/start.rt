@@ -6,7 +6,7 @@ ghost use Rattle.opt_pass.specs.Starting.{numbered_from, with_names, renaming, r
 use crate::entries::plain;
 use crate::names::Names;
 use crate::state::Pass;
-use crate::stores::entry_operations;
+use crate::stores::print_objects;
 use box_forward::Pure;
 use heap_cache::Cache;
 use std::alloc::{AllocError, Global};
@@ -134,7 +134,15 @@ pub fn start(
 {
     let entering = entering_of(alloc, entry)?;
     let names = named_by(alloc, &entering, inputs, entry.values.items())?;
-    let ops = entry_operations(alloc, table, &entering, entry)?;
+    let mut ops = List::of(Vec::new(alloc));
+    print_objects(
+        &mut ops,
+        alloc,
+        table,
+        &entering,
+        entry.pending.items(),
+        entry.shapes.items(),
+    )?;
     let known = Pure::new(alloc)?;
     let passed = Pure::new(alloc)?;
     let cache = Cache::new(alloc)?;
@@ -148,6 +156,7 @@ pub fn start(
         forward: Names::new(alloc),
         cache,
         virtuals,
+        held: List::of(Vec::new(alloc)),
         known,
         passed,
         next: entering.label + entering.shapes,

@@ -1,5 +1,5 @@
 //! What the pass does with one recorded operation.
-ghost use Rattle.std.specs.Prelude.{◌≡◌, ◌≢◌, ℕ, ◌+◌, ◌<◌, ◌^◌, OnOk, false, slice_get};
+ghost use Rattle.std.specs.Prelude.{◌≡◌, ℕ, ◌+◌, ◌<◌, ◌^◌, OnOk, false, slice_get};
 ghost use Rattle.trace_ops.specs.Facts.{part_of as part};
 ghost use Rattle.trace_ops.specs.declared.facts.Part.TheVariants as parts;
 ghost use Rattle.trace_ops.specs.declared.code.OpCode.TheVariants as codes;
@@ -59,7 +59,6 @@ pub fn kept_guard(pass: &mut Pass, alloc: Global, op: &Op) -> Result<(), AllocEr
     requires going { pass.old.ended ≡ false }
     requires guards { pass.old.guard + 1 < 2 ^ 32 }
     requires part { IsTested op.now.code }
-    requires no_exception { op.now.code ≢ codes.GuardNoException }
     ensures { OnOk result (KeepsAll op.now pass.old pass.new) }
 {
     let args = pass.args_of(alloc, op.args.items())?;

@@ -15,5 +15,4 @@ returns c = record {
   constants = made_constants c.args.checked.now c.args.id c.args.to c.args.entry.now _ _ _ _ _ _ _ c.set-set.ensures.value c.operations_at-ops.ensures c.in_ok-label.ensures c.items.ensures c.in_ok-pass.ensures c.laws_hold.ensures c.set-set.ensures.checked.well_formed c.requires.trace;
   slots = made_slots c.args.checked.now c.args.id c.args.to c.args.entry.now _ _ _ _ _ _ _ c.set-set.ensures.value c.operations_at-ops.ensures c.in_ok-label.ensures c.items.ensures c.in_ok-pass.ensures c.laws_hold.ensures c.set-set.ensures.checked.in_range c.set-set.ensures.checked.well_formed c.requires.target c.requires.lawful c.requires.values c.inputs_at-inputs.ensures c.inputs_at-target.ensures;
   jumps = made_jumps c.args.checked.now c.args.id c.args.to c.args.entry.now _ _ _ _ _ _ _ c.set-set.ensures.value c.operations_at-ops.ensures c.in_ok-label.ensures c.items.ensures c.in_ok-pass.ensures c.set-set.ensures.checked.well_formed;
-  exceptions = c.in_ok-pass.ensures.shows.exceptions;
 }

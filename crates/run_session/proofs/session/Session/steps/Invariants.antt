@@ -1,0 +1,5 @@
+use Rattle.run_session.proofs.Running.{Ran}
+use Rattle.run_session.proofs.session.Session.steps.Given as goal
+
+abbrev pub invariant-loop : goal.invariant-loop
+invariant-loop l = Ran l.a l.fn.self l.self l.counter l.fn.most

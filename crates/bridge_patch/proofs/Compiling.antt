@@ -1,5 +1,5 @@
 -- The pieces of all loops can be planned, and there is room for them.
-use Rattle.std.proofs.Common.{◌≡◌, ℕ, zero, suc, ◌+◌, ◌*◌, ◌<◌, ◌≤◌, ◌^◌, Option, List, [], ◌∷◌, ◌++◌, length, sym, ap, ◌∙◌, subst, arith}
+use Rattle.std.proofs.Common.{refl, ◌≡◌, ℕ, zero, suc, ◌+◌, ◌*◌, ◌<◌, ◌≤◌, ◌^◌, Option, List, [], ◌∷◌, ◌++◌, length, sym, ap, ◌∙◌, subst, arith}
 use Rattle.std.specs.List.{All, AllByRecursion}
 use Rattle.trace_ops.specs.declared.trace.BoxId.{BoxId}
 use Rattle.trace_ops.specs.declared.trace.Origin.{Origin}
@@ -147,3 +147,8 @@ image_of set registers ps laid image h b p e = record {
   exits = e ∙ h.rows;
   heres = subst (AreHere h.placed) (sym p) h.heres;
 }
+
+pub image_of-placed : (set : TraceSet) (registers : ℕ) (ps : List Piece) (laid : Laid) (image : Imaged) (h : IsLaid set registers ps laid) (b : image.bytes ≡ laid.bytes.items) (p : image.pieces ≡ laid.pieces.items) (e : image.exits ≡ laid.exits.items)
+    → (image_of set registers ps laid image h b p e).placed ≡ h.placed
+unfolding image_of
+image_of-placed set registers ps laid image h b p e = refl

@@ -105,6 +105,7 @@ impl Image {
         requires { CanCompile set.now loops.now registers }
         ensures image { IfOk result (λ image. IsImage set.now (all_pieces loops.now) image) }
         ensures placed { IfOk result (λ image. (placed : Items Placed) × (map (λ (pl : Placed). pl.piece) placed ≡ all_pieces loops.now) × IsImageOf set.now placed image) }
+        ensures both { IfOk result (λ image. (z : IsImage set.now (all_pieces loops.now) image) × IsImageOf set.now z.placed image) }
         ensures registers { IfOk result (λ image. image.registers ≡ registers) }
         ensures attached { IfOk result (λ image. image.attached ≡ []) }
         ensures changes { IfOk result (λ image. image.changes ≡ []) }

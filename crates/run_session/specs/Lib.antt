@@ -1,0 +1,14 @@
+pub mod Sessions
+pub mod Calls
+pub mod Viewed
+pub mod Outcomes
+pub mod Guards
+pub mod Answers
+pub mod Logging
+pub mod Read
+pub mod Given
+pub mod Keeping
+pub mod Returning
+pub mod Turning
+pub mod Fitting
+pub mod Beginning

@@ -1,0 +1,20 @@
+//! A session of activations on a set's image.
+#![tactic(auto)]
+
+mod active;
+mod calling;
+mod condition;
+mod counting;
+mod event;
+mod exit;
+mod log;
+mod now;
+mod passing;
+mod pieces;
+mod reading;
+mod returning;
+mod session;
+mod starting;
+
+pub use now::{Now, StartFault};
+pub use session::Session;

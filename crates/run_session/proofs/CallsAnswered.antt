@@ -129,17 +129,3 @@ first_of-Done t p args seen refs a g x c d s u shown same some gave h e =
     let own = subst (λ (r : List ℤ). Answers t p r a s u (outcome.Done g)) same h in
     let came = done (fits_words t p.row (refs_of p) s.arena a) t p args seen a g x c d s u shown gave own e in
     subst (λ (o : Option Answer). CameOut (first_of t p c s o) now.Going d u) (sym some) came
-
--- ---- the machine stays where nothing is done
-
-stays_if : (b : Bool) (t : Table) (refs : List ℤ) (a : Answer) (s u : State) (f : TooFew) → done_when b t refs a s u (outcome.Full f) → u ≡ s
-stays_if true t refs a s u f h = (let no : outcome.Full f ≡ outcome.Done a.gives = h.0 in absurd (cc))
-stays_if false t refs a s u f h = h.1
-
-pub stays-Full : (q : Bool) (t : Table) (refs : List ℤ) (a : Answer) (s u : State) (f : TooFew) → fitted_when q t refs a s u (outcome.Full f) → u ≡ s
-stays-Full true t refs a s u f h = stays_if (nat_le (fresh_bytes t a.gives) (bytes_left s.arena)) t refs a s u f h
-stays-Full false t refs a s u f h = h.1
-
-pub stays-Misfit : (q : Bool) (t : Table) (refs : List ℤ) (a : Answer) (s u : State) → fitted_when q t refs a s u outcome.Misfit → u ≡ s
-stays-Misfit true t refs a s u h = absurd (no_misfit (nat_le (fresh_bytes t a.gives) (bytes_left s.arena)) t refs a s u h)
-stays-Misfit false t refs a s u h = h.1

@@ -1,9 +1,10 @@
 -- What a call passes, by the registers and by their words; references by the addresses that were found.
-use Rattle.std.proofs.Common.{◌≡◌, ℕ, zero, suc, ◌+◌, Bool, true, false, ℤ, pos, List, [], ◌∷◌, ◌++◌, map, slice_get, Option, Some, None, refl, sym, ap, ◌∙◌}
+use Rattle.std.proofs.Common.{◌≡◌, ℕ, ◌+◌, Bool, true, false, ℤ, pos, List, [], ◌∷◌, ◌++◌, map, slice_get, Option, Some, None, refl, sym, ap, ◌∙◌}
 use Rattle.std.specs.Prelude.{is_some, ◌||◌}
-use Rattle.std.specs.Option.{option_map, option_to_list}
+use Rattle.std.specs.Option.{option_to_list}
 use Rattle.std.specs.Ordering.{int_eq}
 use Rattle.std.specs.List.{flat_map}
+use Rattle.std.proofs.lemmas.Option.{slice_get-map}
 use Rattle.trace_ops.specs.declared.table.Table.{Table}
 use Rattle.trace_ops.specs.declared.trace.Kind.{Kind}
 use Rattle.trace_ops.specs.declared.trace.Kind.TheVariants as kind
@@ -78,18 +79,13 @@ references-values_by found (k ∷ ks) [] = refl
 references-values_by found (kind.Int ∷ ks) (w ∷ ws) = references-values_by found ks ws
 references-values_by found (kind.Ref ∷ ks) (w ∷ ws) = reference_first (number_in w found) (values_by found ks ws) ∙ ap (λ (vs : List Value). refer found w ∷ vs) (references-values_by found ks ws)
 
-slice_get_mapped : {X Y : Type 0} (f : X → Y) (xs : List X) (k : ℕ) → option_map f (slice_get xs k) ≡ slice_get (map f xs) k
-slice_get_mapped f [] k = refl
-slice_get_mapped f (x ∷ xs) zero = refl
-slice_get_mapped f (x ∷ xs) (suc k) = slice_get_mapped f xs k
-
 pub given_by-reference_words : (t : Table) (after : Arena) (found : List ℕ) (ks : List Kind) (ws : List ℤ) (fresh : ℤ) (g : Give)
     → given_by t after found (reference_words ks ws) fresh g ≡ given_in t after (references (values_by found ks ws)) fresh g
 given_by-reference_words t after found ks ws fresh give.Nothing = refl
 given_by-reference_words t after found ks ws fresh (give.Int z) = refl
 given_by-reference_words t after found ks ws fresh give.Null = refl
 given_by-reference_words t after found ks ws fresh (give.Arg k) =
-    slice_get_mapped (λ (w : ℤ). refer found w) (reference_words ks ws) k ∙ ap (λ (vs : List Value). slice_get vs k) (sym (references-values_by found ks ws))
+    sym (slice_get-map (λ (w : ℤ). refer found w) (reference_words ks ws) k) ∙ ap (λ (vs : List Value). slice_get vs k) (sym (references-values_by found ks ws))
 given_by-reference_words t after found ks ws fresh (give.Prebuilt k) = refl
 given_by-reference_words t after found ks ws fresh (give.New k) = refl
 

@@ -1,8 +1,9 @@
 -- A field read at an address is that of the object there.
-use Rattle.std.proofs.Common.{◌≡◌, ℕ, zero, suc, ◌+◌, ◌*◌, ◌<◌, Bool, true, false, ℤ, pos, negsuc, List, length, slice_get, Option, Some, None, get_or, refl, sym, ap, ◌∙◌, subst, arith}
+use Rattle.std.proofs.Common.{◌≡◌, ℕ, zero, suc, ◌+◌, ◌*◌, ◌<◌, true, ℤ, pos, negsuc, List, length, slice_get, Option, Some, None, get_or, refl, sym, ap, ◌∙◌, subst, arith}
 use Rattle.std.specs.Prelude.{nat_le, is_some, ◌||◌, ◌==◌, position, option_and_then}
 use Rattle.std.specs.Option.{option_map}
 use Rattle.std.specs.Ordering.{int_eq}
+use Rattle.std.proofs.Math.Bool.{or-false}
 use Rattle.std.proofs.lemmas.Bool.{eqb-true}
 use Rattle.std.proofs.lemmas.Bool.Decides.{Decides-int_eq}
 use Rattle.std.proofs.lemmas.Option.{slice_get-get_or, cond_some}
@@ -95,14 +96,10 @@ fields_there t arena found a k field taken same e =
     ap (field_by t arena found field) r.2 ∙ read_placed t arena found field f (field_place t f.of field) same all refl
     ∙ sym (ap (option_and_then (part_of_object t (Field field))) (object_read t arena k f r.1))
 
-or_never : (b : Bool) → (b || false) ≡ true → b ≡ true
-or_never true e = refl
-or_never false e = e
-
 read_as : (t : Table) (arena : Arena) (found : List ℕ) (w : ℤ) (field : ℕ) (o : Option ℕ) → FoundAreTaken → Numbers t arena found → object_at t arena w ≡ o → (int_eq w (pos 0) || is_some o) ≡ true
     → field_by t arena found field (begins_by t arena w) ≡ read_in t (Field field) (reference_to o) (objects_in t arena)
 read_as t arena found w field None taken same e known =
-    let null : w ≡ pos 0 = (Decides-int_eq w (pos 0)).0 (or_never (int_eq w (pos 0)) known) in
+    let null : w ≡ pos 0 = (Decides-int_eq w (pos 0)).0 (sym (or-false (int_eq w (pos 0))) ∙ known) in
     subst (λ (x : ℤ). field_by t arena found field (begins_by t arena x) ≡ None) (sym null) refl
 read_as t arena found (pos a) field (Some k) taken same e known = fields_there t arena found a k field taken same e
 read_as t arena found (negsuc a) field (Some k) taken same e known = (let no : None ≡ Some k = same (negsuc a) ∙ e in absurd (cc))

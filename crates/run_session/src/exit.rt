@@ -1,6 +1,6 @@
 // What is read where a machine has returned.
 
-ghost use Rattle.std.specs.Prelude.{◌≡◌, [], List, Some as IsSome, slice_get, position};
+ghost use Rattle.std.specs.Prelude.{◌≡◌, [], List, Some as Just, slice_get, position};
 ghost use Rattle.trace_ops.specs.InRange.{IsTableInRange};
 ghost use Rattle.arena_objects.specs.Walked.{addresses_found};
 ghost use Rattle.arena_objects.specs.ReadBack.{or_zero};
@@ -29,7 +29,7 @@ fn word_of(words: &[Word], index: u32) -> Word
 
 // The word of a place: that of a register is saved in the frame word of its number.
 fn word_at(frame: &[Word], place: Place) -> Word
-    ensures { result ≡ word_in frame.now (IsSome place) }
+    ensures { result ≡ word_in frame.now (Just place) }
 {
     match place {
         Place::In(r) => word_of(frame, u32::from(r.0)),

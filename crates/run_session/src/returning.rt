@@ -1,6 +1,6 @@
 // What a return shows.
 
-ghost use Rattle.std.specs.Prelude.{◌≡◌, ◌≢◌, pos, Option as Maybe, Some as IsSome, IfSome, IfNone, IfOk, IfErr};
+ghost use Rattle.std.specs.Prelude.{◌≡◌, ◌≢◌, pos, Option as Maybe, Some as Just, IfSome, IfNone, IfOk, IfErr};
 ghost use Rattle.std.specs.List.{All, Contains};
 ghost use Rattle.trace_ops.specs.InRange.{IsTableInRange};
 ghost use Rattle.arena_objects.specs.Walked.{addresses_found};
@@ -61,7 +61,7 @@ fn exit_at<'a>(table: &'a Table, row: &'a ExitRow, active: &'a Active) -> Exit<'
 // The end at a finish.
 fn finished(table: &Table, opt: &[OptTrace], row: &ExitRow, active: &Active) -> Now
     requires { active.now.rebuilt.found ≡ addresses_found table.now active.now.machine.arena }
-    ensures { (value : Maybe OneArg) → finish_meant (last_of (ops_at (all_pieces opt.now) row.now.id)) ≡ IsSome value → ShownNow table.now (finished_at table.now active.now.machine row.now value) result active.now.rebuilt.frames active.now.machine }
+    ensures { (value : Maybe OneArg) → finish_meant (last_of (ops_at (all_pieces opt.now) row.now.id)) ≡ Just value → ShownNow table.now (finished_at table.now active.now.machine row.now value) result active.now.rebuilt.frames active.now.machine }
 {
     let exit = exit_at(table, row, active);
     if let Some(word) = exit.stray_box() {
@@ -83,7 +83,7 @@ fn stray_at(
 ) -> Option<Word>
     requires range { IsTableInRange table.now }
     requires found { active.now.rebuilt.found ≡ addresses_found table.now active.now.machine.arena }
-    ensures { (snap : OneSnapshot) → snapshot_meant (ops_at (all_pieces opt.now) row.now.id) guard ≡ IsSome snap → result ≡ stray_meant table.now active.now.machine row.now snap }
+    ensures { (snap : OneSnapshot) → snapshot_meant (ops_at (all_pieces opt.now) row.now.id) guard ≡ Just snap → result ≡ stray_meant table.now active.now.machine row.now snap }
 {
     let exit = exit_at(table, row, active);
     if let Some(word) = exit.stray_box() {
@@ -171,7 +171,7 @@ fn exited(
     requires adopted { active.old.rebuilt.table ≡ table.now }
     requires reserved { AreReserved image.now.pieces active.old.rebuilt }
     requires found { active.old.rebuilt.found ≡ addresses_found table.now active.old.machine.arena }
-    ensures shown { (snap : OneSnapshot) → snapshot_meant (ops_at (all_pieces opt.now) row.now.id) guard ≡ IsSome snap → ExitsSo table.now row.now guard snap active.old active.new result }
+    ensures shown { (snap : OneSnapshot) → snapshot_meant (ops_at (all_pieces opt.now) row.now.id) guard ≡ Just snap → ExitsSo table.now row.now guard snap active.old active.new result }
     ensures changes { ChangesArena active.old active.new }
     ensures ended { result ≢ IsGoing }
 {
@@ -216,7 +216,7 @@ fn shown(
 
 // Finds the objects of the arena, and notes the bytes that are taken.
 fn look(active: &mut Active)
-    ensures { active.new ≡ record active.old { rebuilt = record active.old.rebuilt { found = addresses_found active.old.rebuilt.table active.old.machine.arena }; last_taken = IsSome active.old.machine.arena.taken } }
+    ensures { active.new ≡ record active.old { rebuilt = record active.old.rebuilt { found = addresses_found active.old.rebuilt.table active.old.machine.arena }; last_taken = Just active.old.machine.arena.taken } }
 {
     active.last_taken = Some(active.machine.arena().taken());
     active.rebuilt.walk(active.machine.arena());

@@ -1,4 +1,4 @@
-use Rattle.std.proofs.Common.{rules, to_z, of_z, ◌≡◌, ℕ, ◌+◌, List, drop, slice_get, Option, None, ℤ, pos, refl, sym, ap, ◌∙◌, subst}
+use Rattle.std.proofs.Common.{rules, to_z, of_z, ◌≡◌, ℕ, ◌+◌, List, drop, slice_get, None, pos, sym, ap, ◌∙◌}
 use Rattle.std.specs.Int.{w64}
 use Rattle.std.proofs.lemmas.Int.{to_z-of_z}
 use Rattle.target_base.specs.Arena.{Arena}

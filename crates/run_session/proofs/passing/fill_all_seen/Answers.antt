@@ -1,6 +1,4 @@
-use Rattle.std.proofs.Common.{rules, ◌≡◌, ◌++◌, ℤ, pos, slice_index_or, refl, sym, ap, ◌∙◌, to_z, of_z}
-use Rattle.std.specs.Int.{w64}
-use Rattle.std.proofs.lemmas.Int.{to_z-of_z}
+use Rattle.std.proofs.Common.{rules, ◌≡◌, ◌++◌, ℤ, pos, slice_index_or}
 use Rattle.trace_ops.specs.declared.trace.Kind.{Kind}
 use Rattle.trace_ops.specs.declared.trace.Kind.TheVariants as kind
 use Rattle.run_session.specs.Answers.{fields_seen, seen_if}

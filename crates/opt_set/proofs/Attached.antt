@@ -1,5 +1,5 @@
 -- A bridge that is attached, and one that isn't.
-use Rattle.std.proofs.Common.{◌≡◌, ◌⊎◌, inl, inr, ℕ, zero, suc, ◌+◌, ◌<◌, ◌≤◌, Bool, true, false, ◌&&◌, ◌==◌, if◌then◌else◌, List, [], ◌∷◌, ◌++◌, Option, Some, None, length, map, slice_get, slice_set, refl, sym, ap, ◌∙◌, subst, arith}
+use Rattle.std.proofs.Common.{◌≡◌, ℕ, ◌<◌, Bool, true, false, ◌&&◌, ◌==◌, if◌then◌else◌, List, [], ◌∷◌, ◌++◌, Option, Some, None, length, map, slice_get, slice_set, refl, sym, ap, ◌∙◌, subst}
 use Rattle.std.specs.Bool.{Decides}
 use Rattle.std.specs.Option.{IsSome, IsSomeAnd, option_and_then}
 use Rattle.std.specs.List.{AllByRecursion, AllZip, flat_map}
@@ -7,7 +7,7 @@ use Rattle.std.proofs.lemmas.Bool.Decides.{Decides-eqb}
 use Rattle.std.proofs.lemmas.Option.{slice_get_within}
 use Rattle.lists.specs.Has.{Has, IsOnce}
 use Rattle.lists.proofs.Eaches.{each_append}
-use Rattle.lists.proofs.Options.{some_same, none_some}
+use Rattle.lists.proofs.Options.{none_some}
 use Rattle.lists.proofs.Places.{get_some}
 use Rattle.lists.proofs.Zips.{zip_push}
 use Rattle.trace_ops.specs.declared.trace.Origin.{Origin}
@@ -22,12 +22,12 @@ use Rattle.trace_ops.specs.Rules.{guard_op, ComesFrom}
 use Rattle.trace_ops.specs.Weights.{place_of, parent_named, parent_of, parent_at}
 use Rattle.trace_ops.specs.WellFormed.{IsWellFormed}
 use Rattle.trace_meaning.specs.Cuts.{is_at, leaves_from, trace_leaves_from, is_bridge_of}
-use Rattle.opt_meaning.specs.Meeting.{Made, pieces_of}
-use Rattle.opt_meaning.specs.Pieces.{same_piece, all_pieces}
-use Rattle.loop_peel.specs.Peeling.{IsLoop, IsBridge, IsPieceOf, ArePieces, in_half, left_by, kept_if, kept_at, guard_from, guard_of}
+use Rattle.opt_meaning.specs.Meeting.{Made}
+use Rattle.opt_meaning.specs.Pieces.{same_piece}
+use Rattle.loop_peel.specs.Peeling.{IsLoop, IsBridge, ArePieces, in_half, left_by, kept_if, kept_at, guard_from, guard_of}
 use Rattle.loop_peel.specs.Serving.{CanEnter, IsLeft, EntriesServe}
 use Rattle.opt_set.specs.Attaching.{LacksParent, IsGranted, IsOneMore}
-use Rattle.opt_set.specs.Optimised.{Left, Optimised, loops_from, IsTraceAt, of_trace, IsOwnPiece, IsLeftOf, HasPieces, left_in, left_of, with_bridge, Holds, IsOptimised}
+use Rattle.opt_set.specs.Optimised.{Left, Optimised, loops_from, IsTraceAt, of_trace, IsOwnPiece, left_in, left_of, with_bridge, IsOptimised}
 use Rattle.opt_set.proofs.Adding.{bridge_added}
 use Rattle.opt_set.proofs.Halves.{left_once}
 use Rattle.opt_set.proofs.Stepping.{pieces_more, bridge_at}

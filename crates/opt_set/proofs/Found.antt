@@ -1,7 +1,7 @@
 -- Pieces by their names, of lists one behind the other.
-use Rattle.std.proofs.Common.{◌≡◌, ◌≢◌, ◌⊎◌, inl, inr, ℕ, Bool, true, false, if◌then◌else◌, ◌==◌, List, [], ◌∷◌, ◌++◌, Option, Some, None, map, refl, sym, ap, ◌∙◌, subst}
+use Rattle.std.proofs.Common.{◌≡◌, ◌⊎◌, inl, inr, ℕ, Bool, true, false, if◌then◌else◌, ◌==◌, List, [], ◌∷◌, ◌++◌, Option, Some, None, map, refl, sym, ap, ◌∙◌}
 use Rattle.std.specs.Bool.{Decides}
-use Rattle.std.specs.List.{AllByRecursion, AllZip, flat_map}
+use Rattle.std.specs.List.{AllZip, flat_map}
 use Rattle.std.proofs.lemmas.Bool.Decides.{Decides-eqb}
 use Rattle.lists.specs.Has.{Has}
 use Rattle.lists.proofs.Options.{some_same, none_some}
@@ -13,7 +13,7 @@ use Rattle.opt_meaning.specs.Admits.{entry_for}
 use Rattle.opt_meaning.specs.Meeting.{Made, made_at, IsEntered}
 use Rattle.opt_meaning.specs.Pieces.{same_piece}
 use Rattle.loop_peel.specs.Peeling.{IsPieceOf, left_by, kept_if, kept_at}
-use Rattle.opt_set.specs.Optimised.{Left, of_trace}
+use Rattle.opt_set.specs.Optimised.{of_trace}
 
 false_true : false ≡ true → ⊥
 false_true e = cc

@@ -1,10 +1,9 @@
 -- The loops of a set, peeled one after the other.
-use Rattle.std.proofs.Common.{◌≡◌, ◌≢◌, ℕ, zero, suc, ◌+◌, ◌<◌, ◌≤◌, List, [], ◌∷◌, ◌++◌, Option, Some, None, length, length-set, map, take, replicate, slice_get, slice_set, refl, sym, ap, ◌∙◌, subst, arith}
+use Rattle.std.proofs.Common.{◌≡◌, ◌≢◌, ℕ, zero, suc, ◌+◌, ◌<◌, ◌≤◌, List, [], ◌∷◌, ◌++◌, Option, Some, None, length, map, take, replicate, slice_get, slice_set, refl, sym, ap, ◌∙◌, subst, arith}
 use Rattle.std.specs.Bool.{Decides}
 use Rattle.std.specs.Option.{IsSomeAnd}
 use Rattle.std.specs.List.{AllByRecursion, AllZip, flat_map}
 use Rattle.std.proofs.lemmas.Option.{slice_get_within}
-use Rattle.lists.specs.Has.{Has}
 use Rattle.lists.proofs.Options.{some_same, none_some}
 use Rattle.lists.proofs.Places.{get_some, get_set_other}
 use Rattle.lists.proofs.Zips.{zip_push}
@@ -22,7 +21,7 @@ use Rattle.opt_meaning.specs.Meeting.{Made, pieces_of}
 use Rattle.opt_meaning.specs.Pieces.{same_piece, all_pieces}
 use Rattle.loop_peel.specs.Peeling.{IsLoop, IsPieceOf, ArePieces, loop_entry}
 use Rattle.opt_set.specs.Loops.{IsMadeTo}
-use Rattle.opt_set.specs.Optimised.{Left, Optimised, loop_if, loops_from, AreOfLoop, IsTraceAt, of_trace, IsLeftOf, HasPieces, with_loop, Holds, IsOptimised}
+use Rattle.opt_set.specs.Optimised.{Left, Optimised, loop_if, loops_from, AreOfLoop, IsTraceAt, IsLeftOf, with_loop, Holds, IsOptimised}
 use Rattle.opt_set.proofs.Adding.{skipped, loop_added}
 
 append_assoc : {X : Type 0} (xs ys zs : List X) → (xs ++ ys) ++ zs ≡ xs ++ (ys ++ zs)

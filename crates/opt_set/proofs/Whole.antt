@@ -1,14 +1,13 @@
 -- What the pieces of a set give: they are all that is promised of pieces, and they are sound.
-use Rattle.std.proofs.Common.{◌≡◌, ◌⊎◌, inl, inr, ℕ, ◌+◌, ◌<◌, ◌≤◌, ◌↔◌, Bool, true, false, if◌then◌else◌, List, [], ◌∷◌, ◌++◌, Option, Some, None, length, map, slice_get, IsTrue, refl, sym, ap, ◌∙◌, subst, arith}
+use Rattle.std.proofs.Common.{◌≡◌, ℕ, Bool, true, false, if◌then◌else◌, List, [], ◌∷◌, Option, Some, None, length, map, slice_get, refl, sym, ap, ◌∙◌, subst}
 use Rattle.std.specs.Bool.{Decides}
 use Rattle.std.specs.Option.{option_map, IsSomeAnd}
-use Rattle.std.specs.List.{All, AllByRecursion, Contains}
+use Rattle.std.specs.List.{AllByRecursion, Contains}
 use Rattle.std.proofs.lemmas.List.Elements.{All-contains}
 use Rattle.std.proofs.lemmas.Option.{slice_get_within, slice_get-get_or}
 use Rattle.lists.specs.Has.{Has}
 use Rattle.lists.proofs.Eaches.{each_at}
 use Rattle.lists.proofs.Membership.{has_at, has_get}
-use Rattle.lists.proofs.Options.{some_same, none_some}
 use Rattle.trace_ops.specs.declared.trace.BoxId.{BoxId}
 use Rattle.trace_ops.specs.declared.trace.Arg.{Arg}
 use Rattle.trace_ops.specs.declared.trace.Trace.{Trace}
@@ -19,21 +18,17 @@ use Rattle.trace_ops.specs.declared.piece.Piece.{Piece}
 use Rattle.trace_ops.specs.declared.piece.Entry.{Entry}
 use Rattle.trace_ops.specs.Constants.{HasWords}
 use Rattle.trace_ops.specs.Lawful.{AreDistinct}
-use Rattle.trace_ops.specs.Sound.{IsFormed, IsSound}
+use Rattle.trace_ops.specs.Sound.{IsSound}
 use Rattle.trace_ops.specs.WellFormed.{IsWellFormed}
-use Rattle.trace_meaning.specs.Cuts.{Cuts, is_bridge_of}
+use Rattle.trace_meaning.specs.Cuts.{Cuts}
 use Rattle.trace_meaning.specs.Recorded.{inputs_of, jump_target}
-use Rattle.opt_meaning.specs.Admits.{plain_entry, entry_for}
-use Rattle.opt_meaning.specs.Leaving.{Simulates}
+use Rattle.opt_meaning.specs.Admits.{plain_entry}
 use Rattle.opt_meaning.specs.Meeting.{Made, Meet, EndsOnce, made_at, pieces_of, IsEntered}
-use Rattle.opt_meaning.specs.Pieces.{same_piece, piece_at, last_of, all_pieces, preamble}
-use Rattle.opt_meaning.specs.Rebuilding.{snapshot_in}
-use Rattle.opt_meaning.specs.Showing.{SnapshotsFit, FitsGuard}
-use Rattle.opt_pass.specs.Inputs.{HasInputs}
+use Rattle.opt_meaning.specs.Pieces.{same_piece, piece_at, last_of, preamble}
 use Rattle.opt_promise.specs.Promise.{AreAt, BeginsPlainly, first_piece, AreMade}
 use Rattle.loop_peel.specs.Laws.{GuardsFit}
 use Rattle.loop_peel.specs.Peeling.{IsLoop, HavePreambles, IsPieceOf, loop_entry}
-use Rattle.opt_set.specs.Optimised.{Left, Optimised, label_in, IsOwnPiece, Holds, IsOptimised, OptimisedAreMade, OptimisedAreSound}
+use Rattle.opt_set.specs.Optimised.{Left, label_in, IsOwnPiece, Holds, OptimisedAreMade, OptimisedAreSound, OptimisedHavePreambles}
 use Rattle.opt_set.proofs.Found.{found_here}
 
 had : {X : Type 0} (xs : List X) (x : X) → Contains xs x → Has xs x
@@ -126,3 +121,6 @@ are_made tell fit set o well words i = (i.made, sym i.pieces, made tell fit set 
 
 pub are_sound : ((a b : PieceId) → Decides (same_piece a b) (a ≡ b)) → GuardsFit → OptimisedAreSound
 are_sound tell fit set o i = subst (λ (ps : List Piece). AllByRecursion (IsSound set (label_in ps)) ps) (sym i.pieces) (sound tell fit set o.attached o.left i.made i.holds)
+
+pub have_preambles : ((a b : PieceId) → Decides (same_piece a b) (a ≡ b)) → GuardsFit → OptimisedHavePreambles
+have_preambles tell fit set o i = subst (λ (ps : List Piece). HavePreambles set (label_in ps)) (sym i.pieces) (have tell fit set o.attached o.left i.made i.holds)

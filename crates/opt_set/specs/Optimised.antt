@@ -1,6 +1,6 @@
 -- The optimised pieces of a set: those of all loops, and of the bridges that were attached so far.
-use Rattle.std.specs.Prelude.{◌≡◌, ℕ, ◌+◌, ◌==◌, ◌<◌, Bool, true, false, if◌then◌else◌, List, [], ◌∷◌, ◌++◌, Option, Some, None, length, map, slice_get, slice_set}
-use Rattle.std.specs.Option.{option_map, IsSomeAnd}
+use Rattle.std.specs.Prelude.{◌≡◌, ℕ, ◌+◌, ◌==◌, ◌<◌, true, if◌then◌else◌, List, [], ◌∷◌, ◌++◌, Option, Some, None, length, map, slice_get, slice_set}
+use Rattle.std.specs.Option.{option_map}
 use Rattle.std.specs.List.{AllByRecursion, AllZip, flat_map}
 use Rattle.trace_ops.specs.declared.trace.BoxId.{BoxId}
 use Rattle.trace_ops.specs.declared.trace.Origin.{Origin}
@@ -22,7 +22,7 @@ use Rattle.opt_meaning.specs.Admits.{entry_for}
 use Rattle.opt_meaning.specs.Meeting.{Made, made_at, pieces_of, IsEntered}
 use Rattle.opt_meaning.specs.Pieces.{piece_at, all_pieces, preamble}
 use Rattle.opt_promise.specs.Promise.{AreMade}
-use Rattle.loop_peel.specs.Peeling.{IsLoop, IsBridge, IsPieceOf, left_by, loop_entry}
+use Rattle.loop_peel.specs.Peeling.{IsLoop, IsBridge, IsPieceOf, HavePreambles, left_by, loop_entry}
 
 -- What there is
 
@@ -149,3 +149,7 @@ OptimisedAreMade =
 -- each piece is sound, by the labels of all pieces
 abbrev pub OptimisedAreSound : Type 0
 OptimisedAreSound = (set : TraceSet) (o : Optimised) → IsOptimised set o → AllByRecursion (IsSound set (label_in (all_pieces o.traces))) (all_pieces o.traces)
+
+-- the label of the preamble of each loop has a box for each input, of its kind
+abbrev pub OptimisedHavePreambles : Type 0
+OptimisedHavePreambles = (set : TraceSet) (o : Optimised) → IsOptimised set o → HavePreambles set (label_in (all_pieces o.traces))

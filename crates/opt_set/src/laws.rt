@@ -1,5 +1,5 @@
 //! What the optimised pieces of a set give.
-ghost use Rattle.opt_set.specs.Optimised.{OptimisedAreMade, OptimisedAreSound};
+ghost use Rattle.opt_set.specs.Optimised.{OptimisedAreMade, OptimisedAreSound, OptimisedHavePreambles};
 
 use loop_peel::guards_fit_their_trace;
 use trace_ops::equality_decides;
@@ -15,6 +15,14 @@ pub fn pieces_are_made()
 /// Each piece is sound, where the labels are those of all pieces.
 pub fn pieces_are_sound()
     ensures { OptimisedAreSound }
+{
+    equality_decides();
+    guards_fit_their_trace();
+}
+
+/// The label of the preamble of each loop has a box for each input, of its kind.
+pub fn preambles_are_had()
+    ensures { OptimisedHavePreambles }
 {
     equality_decides();
     guards_fit_their_trace();

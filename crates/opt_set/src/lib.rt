@@ -7,5 +7,5 @@ mod parents;
 mod pieces;
 
 pub use fault::AttachFault;
-pub use laws::{pieces_are_made, pieces_are_sound};
+pub use laws::{pieces_are_made, pieces_are_sound, preambles_are_had};
 pub use pieces::OptimisedSet;

@@ -65,7 +65,8 @@ impl OptimisedSet {
         Ok(())
     }
 
-    fn add_bridge(&mut self, bridge: u32, made: Peeled) -> Result<(), AllocError>
+    /// Attaches a bridge with the pieces that [`OptimisedSet::pieces_of`] made for it. Where memory is refused, all is as it was.
+    pub fn add_bridge(&mut self, bridge: u32, made: Peeled) -> Result<(), AllocError>
         requires { bridge < length self.old.left }
         ensures ok { OnOk result (self.new ≡ with_bridge self.old bridge made.opt made.at_guards) }
         ensures err { OnErr result (self.new ≡ self.old) }
@@ -129,8 +130,12 @@ impl OptimisedSet {
         Ok(made)
     }
 
-    // The pieces of a bridge that may be attached.
-    fn pieces_of(
+    /// The pieces of a bridge, made from what is known where its guard fails; nothing is attached yet. The answer is one for
+    /// [`OptimisedSet::add_bridge`].
+    ///
+    /// # Errors
+    /// Those of [`OptimisedSet::attach`].
+    pub fn pieces_of(
         &self,
         alloc: Global,
         checked: &Checked,

@@ -1,2 +1,7 @@
+mod Things
+mod Guards
 mod Loops
 mod EachPiece
+mod Bridges
+mod Histories
+mod Numbers

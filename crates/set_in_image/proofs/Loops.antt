@@ -1,10 +1,9 @@
 -- The loops of a set.
-use Rattle.std.proofs.Common.{◌≡◌, ◌≢◌, ℕ, zero, suc, ◌+◌, ◌≤◌, true, List, [], ◌∷◌, ◌++◌, Option, Some, None, map, slice_get, refl, sym, ap, ◌∙◌, subst, arith}
+use Rattle.std.proofs.Common.{◌≡◌, ◌≢◌, ℕ, suc, ◌+◌, true, List, [], ◌∷◌, ◌++◌, Option, Some, None, slice_get, refl, sym, ap, ◌∙◌, subst, arith}
 use Rattle.std.specs.Option.{IsSomeAnd}
 use Rattle.std.specs.List.{All, AllByRecursion, AllZip}
 use Rattle.std.proofs.lemmas.List.Elements.{All-from_recursion}
 use Rattle.lists.proofs.Eaches.{each_append}
-use Rattle.lists.proofs.Options.{some_same, none_some}
 use Rattle.trace_ops.specs.declared.code.OpCode.{OpCode}
 use Rattle.trace_ops.specs.declared.code.OpCode.TheVariants as code
 use Rattle.trace_ops.specs.declared.trace.Origin.{Origin}
@@ -20,12 +19,9 @@ use Rattle.code_layout.specs.Chosen.{can_fail}
 use Rattle.bridge_patch.specs.Image.{ArePiecesOf, AreOfLoops, KeepsItsGuard, loop_if as image_loop_if, loops_from as image_loops_from}
 use Rattle.opt_pass.specs.Contract.{KeepsNoException}
 use Rattle.loop_peel.specs.Peeling.{IsLoop}
-use Rattle.opt_set.specs.Optimised.{Optimised, loop_if, loops_from, AreOfLoop, IsTraceAt, IsOwnPiece, IsOptimised, OptimisedAreSound}
+use Rattle.opt_set.specs.Optimised.{loop_if, loops_from, AreOfLoop, IsTraceAt, IsOwnPiece, OptimisedAreSound}
 use Rattle.set_in_image.specs.Fitting.{LoopsCanCompile}
-
-append_none : {X : Type 0} (xs : List X) → xs ++ [] ≡ xs
-append_none [] = refl
-append_none (x ∷ xs) = ap (λ l. x ∷ l) (append_none xs)
+use Rattle.set_in_image.proofs.Things.{append_none}
 
 -- Both lists of loops are the same
 
@@ -142,7 +138,7 @@ guards_so : (ops : List OptOp) → AllByRecursion KeepsNoException ops → AllBy
 guards_so [] h = tt
 guards_so (op ∷ ops) h = (guard_so op h.0, guards_so ops h.1)
 
-all_guards : (set : TraceSet) (ms : List Made) → AllByRecursion (IsOwnPiece set) ms → AllByRecursion (λ (p : Piece). All KeepsItsGuard p.ops) (pieces_of ms)
+pub all_guards : (set : TraceSet) (ms : List Made) → AllByRecursion (IsOwnPiece set) ms → AllByRecursion (λ (p : Piece). All KeepsItsGuard p.ops) (pieces_of ms)
 all_guards set [] own = tt
 all_guards set (m ∷ ms) own = (All-from_recursion KeepsItsGuard m.piece.ops (guards_so m.piece.ops own.0.exceptions), all_guards set ms own.1)
 

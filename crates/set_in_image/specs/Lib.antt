@@ -1,1 +1,4 @@
 pub mod Fitting
+pub mod Attaching
+pub mod Placing
+pub mod Steps

@@ -1,8 +1,10 @@
-//! What is made of a set is what its image asks: a law, and that the constants of pieces are words.
+//! What is made of a set is what its image asks: laws, and the pieces of a set together with their image.
 #![tactic(auto)]
 
 mod laws;
+mod placed;
 mod words;
 
-pub use laws::loops_can_compile;
+pub use laws::{attached_can_attach, loops_can_compile, steps_are_numbered};
+pub use placed::PlacedSet;
 pub use words::constants_are_words;

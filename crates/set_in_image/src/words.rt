@@ -54,7 +54,7 @@ fn operations_have_words(ops: &[OptOp])
     }
 }
 
-fn pieces_have_words(pieces: &[Piece])
+pub(crate) fn pieces_have_words(pieces: &[Piece])
     ensures { AllByRecursion (λ (p : Piece). All OpHasWords p.ops) pieces.now }
 {
     for piece in pieces {

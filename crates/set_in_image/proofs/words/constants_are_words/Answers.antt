@@ -1,4 +1,4 @@
-use Rattle.std.proofs.Common.{rules, arith, ◌≡◌, ℕ, ◌+◌, ◌<◌, length, sym, subst}
+use Rattle.std.proofs.Common.{arith, subst}
 use Rattle.std.specs.List.{All, AllByRecursion}
 use Rattle.trace_ops.specs.declared.piece.Piece.{Piece}
 use Rattle.opt_meaning.specs.Worded.{OpHasWords}

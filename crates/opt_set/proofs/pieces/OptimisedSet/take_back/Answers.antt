@@ -1,4 +1,4 @@
-use Rattle.std.proofs.Common.{◌≡◌, ◌<◌, [], ◌∷◌, ◌++◌, length, sym, ap, ◌∙◌, rules, arith}
+use Rattle.std.proofs.Common.{◌≡◌, ◌<◌, [], ◌∷◌, ◌++◌, length, sym, ap, ◌∙◌, rules}
 use Rattle.std.specs.Option.{IsSome, option_to_list}
 use Rattle.std.specs.Vec.{vec_len}
 use Rattle.opt_set.specs.Optimised.{Optimised}

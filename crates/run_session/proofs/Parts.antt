@@ -106,8 +106,8 @@ parts_are s b h = none_left (with_only (boxes_of s) [] b h)
 pub each_placed : BoxesDecide → (at : ℕ → Place) (s : Snapshot) → All (HasEach (boxes_at at (parts_of s))) (boxes_of s)
 each_placed decide at s =
     all_has (HasEach (boxes_at at (parts_of s))) (boxes_of s) (λ b h.
-      (let k = has_at (boxes_at at (parts_of s)) (b, at b.number) (has_map (λ (c : BoxId). (c, at c.number)) (parts_of s) b (parts_have decide s b h)) in
-      (k.0, at b.number, k.1)))
+    (let k = has_at (boxes_at at (parts_of s)) (b, at b.number) (has_map (λ (c : BoxId). (c, at c.number)) (parts_of s) b (parts_have decide s b h)) in
+    (k.0, at b.number, k.1)))
 
 -- ---- numbers
 
@@ -174,8 +174,8 @@ pub parts_apart : BoxesDecide → (at : ℕ → Place) (p : Piece) (k : ℕ) (op
     → AreApart (map (λ (q : BoxId × Place). q.0.number) (boxes_at at (parts_of s)))
 parts_apart decide at p k op s numbered defined uses =
     let known : (b : BoxId) → Has (parts_of s) b → Has (defined_by p) b = λ b h. (
-      let used = has_at (used_by op) b (uses b (parts_are s b h)) in
-      before_has p k b (has_of (defined_before p k) b (all_at (Contains (defined_before p k)) (used_by op) used.0 b defined used.1))) in
+    let used = has_at (used_by op) b (uses b (parts_are s b h)) in
+    before_has p k b (has_of (defined_before p k) b (all_at (Contains (defined_before p k)) (used_by op) used.0 b defined used.1))) in
     subst AreApart (numbers_of (parts_of s)) (numbers_apart (parts_of s) (parts_once decide s) (λ b c h g e. numbers_tell (defined_by p) numbered b c (known b h) (known c g) e))
   where
     numbers_of : (bs : List BoxId) → map (λ (b : BoxId). b.number) bs ≡ map (λ (q : BoxId × Place). q.0.number) (boxes_at at bs)

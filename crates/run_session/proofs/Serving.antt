@@ -120,14 +120,17 @@ module _ (decide : BoxesDecide) (kinds : PlacesTellKinds) (set : TraceSet) (rang
       let place = has_at (guarded pl.piece.ops) (record { guard = n; snap = snap }) (guarded_has pl.piece.ops op (record { guard = n; snap = snap }) h g) in
       let own : RebuildsBy set.table known.here.table n snap = rebuilds_by set.table known.here.table pl.piece place.0 (record { guard = n; snap = snap }) range known.is.table known.formed.rows_named.snapshots place.1 in
       let stands = has_at pl.piece.ops op h in
-      let apart = parts_apart decide pl.setting.at pl.piece stands.0 op snap known.formed.boxes_numbered (known.formed.boxes_defined stands.0 op stands.1) uses in
-      (snap, ap (λ (ops : List OptOp). snapshot_in ops n) known.ops ∙ found, record {
-        here = known.here;
-        there = contains_of heres known.here known.there;
-        named = known.is.id;
-        each = λ x c same. subst (λ (y : PieceHere). RebuildsBy set.table y.table n snap) (known.once x c same) own;
-        placed = kinds (boxes_at pl.setting.at (parts_of snap)) snap apart (each_placed decide pl.setting.at snap);
-      })
+      let apart = parts_apart decide pl.setting.at pl.piece stands.0 op snap known.formed.boxes_numbered (known.formed.boxes_defined stands.0 op stands.1) uses in (
+        snap,
+        ap (λ (ops : List OptOp). snapshot_in ops n) known.ops ∙ found,
+        record {
+          here = known.here;
+          there = contains_of heres known.here known.there;
+          named = known.is.id;
+          each = λ x c same. subst (λ (y : PieceHere). RebuildsBy set.table y.table n snap) (known.once x c same) own;
+          placed = kinds (boxes_at pl.setting.at (parts_of snap)) snap apart (each_placed decide pl.setting.at snap);
+        },
+      )
 
   finish_serves : (value : Option Arg) (exit : ℕ) → Has pl.piece.ops (opt.Finish value)
       → Serves set.table ps heres (record { exit = exit; id = pl.piece.id; guard = None; at = 0; places = boxes_at pl.setting.at (finished_boxes value) }) None

@@ -25,7 +25,7 @@ invariant_of-result c =
       host = subst (λ (x : TraceSet). IsHostOf x.table c.in_ok-host.host) set c.in_ok-host.ensures;
       places = subst (λ (rows : List ExitRow). AreGuardPlaces rows c.in_ok-guard_places.guard_places.items) c.exits.ensures c.in_ok-guard_places.ensures;
       served = served c.equality_decides.ensures.piece_id c.args.checked c.args.opt.items c.args.registers image c.requires.pieces made
-      (rows_serve c.equality_decides.ensures.piece_id c.equality_decides.ensures.box c.rebuilds_what_is_meant.ensures.kinds c.args.checked c.args.opt.items c.args.registers image c.requires.pieces made);
+          (rows_serve c.equality_decides.ensures.piece_id c.equality_decides.ensures.box c.rebuilds_what_is_meant.ensures.kinds c.args.checked c.args.opt.items c.args.registers image c.requires.pieces made);
       size = record { whole = c.requires.whole; least = c.requires.least; most = c.requires.most };
       few = (let e = ap length none in omega (arith, e));
       room = c.in_ok-activations.ensures.capacity;

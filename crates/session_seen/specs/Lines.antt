@@ -2,6 +2,7 @@
 use Rattle.std.specs.Prelude.{◌≡◌, ℕ, ◌+◌, ◌*◌, ◌≤◌, ◌⊎◌, Option, Some, None, List, [], ◌∷◌, ◌++◌, length, slice_get, slice_set, codes}
 use Rattle.std.specs.List.{Contains}
 use Rattle.trace_ops.specs.declared.trace.TraceSet.{TraceSet}
+use Rattle.trace_ops.specs.declared.piece.Piece.{Piece}
 use Rattle.trace_ops.specs.Weights.{parent_at}
 use Rattle.trace_meaning.specs.declared.value.Value.{Value}
 use Rattle.trace_meaning.specs.declared.call.Answer.{Answer}
@@ -11,7 +12,8 @@ use Rattle.x64_machine.specs.State.{State}
 use Rattle.session_text.specs.declared.session.Line.{Line}
 use Rattle.session_text.specs.declared.session.Line.TheVariants as line
 use Rattle.image_runs.specs.Printed.{Part, Printed, code_at, rows_at, bridges_at}
-use Rattle.image_runs.specs.Session.{Host, Activation, Session, Event, first, with_cut}
+use Rattle.image_runs.specs.Session.{Host, Activation, Session, SessionRun, Event, first, with_cut}
+use Rattle.session_host.specs.Hosting.{host_of}
 use Rattle.seen_text.specs.declared.lines.Judged.TheVariants.{Accepted, Already, NoParent}
 use Rattle.seen_text.specs.Lines.{started_text, ended_text, attach_text}
 use Rattle.run_session.specs.Calls.{Events, HasEnded}
@@ -77,3 +79,9 @@ abbrev pub AreLines : Host → TraceSet → Printed → List (List ℕ) → List
 AreLines h set im names [] s t text = (t ≡ s) × (text ≡ [])
 AreLines h set im names (l ∷ ls) s t text =
     (u : Session) × (first behind : List ℕ) × IsLine h set im names l s u first × AreLines h set im names ls u t behind × (text ≡ first ++ behind)
+
+-- lines are a run of the session, with the host in arenas of so many bytes
+abbrev pub LinesAreARun : Type 0
+LinesAreARun =
+    (set : TraceSet) (ps : List Piece) (arena_bytes : ℕ) (im : Printed) (names : List (List ℕ)) (ls : List Line) (s t : Session) (text : List ℕ)
+    → AreLines (host_of set ps arena_bytes) set im names ls s t text → SessionRun (host_of set ps arena_bytes) im s t

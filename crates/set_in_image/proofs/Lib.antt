@@ -5,3 +5,4 @@ mod EachPiece
 mod Bridges
 mod Histories
 mod Numbers
+mod Constants

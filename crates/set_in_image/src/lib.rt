@@ -3,8 +3,10 @@
 
 mod laws;
 mod placed;
+mod snapshots;
 mod words;
 
 pub use laws::{attached_can_attach, loops_can_compile, steps_are_numbered};
 pub use placed::PlacedSet;
+pub use snapshots::snapshots_have_words;
 pub use words::constants_are_words;

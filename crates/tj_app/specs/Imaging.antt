@@ -1,6 +1,6 @@
 -- What `image` answers for an input.
 use Rattle.std.specs.Prelude.{◌≡◌, ℕ, ◌+◌, ◌≤◌, ◌^◌, if◌then◌else◌, Option, Some, None, List, [], ◌∷◌, ◌++◌, length, map}
-use Rattle.std.specs.List.{All}
+use Rattle.std.specs.List.{All, AllByRecursion}
 use Rattle.trace_ops.specs.declared.trace.BoxId.{BoxId}
 use Rattle.trace_ops.specs.declared.trace.TraceSet.{TraceSet}
 use Rattle.trace_ops.specs.declared.piece.PieceId.{PieceId}
@@ -19,10 +19,12 @@ use Rattle.bridge_patch.specs.Pieces.{exits_in, finished_boxes}
 use Rattle.bridge_patch.specs.Image.{Imaged, IsImage, CanCompile, loops_from, entry_in}
 use Rattle.bridge_patch.specs.Attached.{IsImageOf}
 use Rattle.image_runs.specs.Printed.{Printed}
-use Rattle.image_runs.specs.Session.{Session, SessionRun}
+use Rattle.image_runs.specs.Session.{Activation, Session, SessionRun}
 use Rattle.session_host.specs.Hosting.{host_of}
 use Rattle.image_built.specs.Laws.{IsPrinted}
-use Rattle.image_built.specs.Running.{RunsAlike, no_session}
+use Rattle.image_built.specs.Running.{no_session}
+use Rattle.image_shows.specs.Keeping.{KeepsToItsTrace}
+use Rattle.image_shows.specs.Laws.{HasSnapshotWords, IsGivenWords}
 use Rattle.image_text.specs.Texts.{image_text}
 use Rattle.tj_app.specs.Opting.{IsOptText}
 
@@ -82,12 +84,12 @@ pub record IsImageFor (count : ℕ) (set : TraceSet) (loops : List OptTrace) (im
 
 -- ---- its sessions
 
--- Whatever is started, in arenas of so many bytes, and whatever events there are: each activation runs as the pieces do, and shows
--- what their guards and finishes show.
-abbrev pub AllRun : TraceSet → List Piece → Printed → Type 0
-AllRun set ps im =
+-- Whatever is started, in arenas of 64 KiB to 16 MiB, and whatever events there are: each activation that was given words keeps to its
+-- recorded trace. It ends where that has ended, and shows the same; or its arena has fewer bytes left than are asked for.
+abbrev pub AllKeepToTheirTraces : TraceSet → List Piece → Printed → Type 0
+AllKeepToTheirTraces set ps im =
     (arena_bytes : ℕ) (s : Session) → 65536 ≤ arena_bytes → arena_bytes ≤ 2 ^ 24 → SessionRun (host_of set ps arena_bytes) im no_session s
-    → All (RunsAlike (host_of set ps arena_bytes) set ps [] (length im.base)) s.activations
+    → All (λ (act : Activation). IsGivenWords act → KeepsToItsTrace set [] (length im.base) act) s.activations
 
 -- ---- the text
 
@@ -96,6 +98,7 @@ pub record AreTextsOf (count : ℕ) (set : TraceSet) (text : List ℕ) : Type 0 
   pub pieces : Optimised
   pub optimised : IsOptimised set pieces
   pub unattached : pieces.attached ≡ []
+  pub words : AllByRecursion HasSnapshotWords (all_pieces pieces.traces)
   pub image : Imaged
   pub can : CanCompile set pieces.traces count
   pub made : IsImage set (all_pieces pieces.traces) image
@@ -105,7 +108,7 @@ pub record AreTextsOf (count : ℕ) (set : TraceSet) (text : List ℕ) : Type 0 
 
 -- The text has two sections. The first is a text that `opt` may write for the input, to which no bridge is attached. The second is
 -- that of an image of the first one's pieces, for so many registers: it has an entry a loop, and an exit for each guard and each
--- finish of the pieces, in order. On this printed image every activation of every session runs as these same pieces do.
+-- finish of the pieces, in order. On this printed image every activation of every session shows what its recorded trace shows.
 pub record IsImageText (count : ℕ) (input text : List ℕ) : Type 0 where
   pub front : List ℕ
   pub opt : IsOptText input front
@@ -115,4 +118,4 @@ pub record IsImageText (count : ℕ) (input text : List ℕ) : Type 0 where
   pub compiled : IsImageFor count opt.set opt.traces image
   pub entered : map (λ (e : ℕ × ℕ). e.0) image.entries ≡ loops_from 0 opt.set.traces
   pub exits : map exit_told image.rows ≡ exits_of 0 (all_pieces opt.traces)
-  pub runs : AllRun opt.set (all_pieces opt.traces) image
+  pub shows : AllKeepToTheirTraces opt.set (all_pieces opt.traces) image

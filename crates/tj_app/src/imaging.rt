@@ -13,12 +13,11 @@ use crate::refusal::Fault;
 use crate::telling::read_usable;
 use crate::words::Command;
 use bridge_patch::Image;
-use image_built::{arena_hosts_do, compiled_runs};
+use image_shows::compiled_images_show;
 use image_text::{Compiled, put_image};
 use opt_promise::made_pieces_promise;
 use opt_set::{OptimisedSet, pieces_are_made, pieces_are_sound};
-use session_host::ArenaHost;
-use set_in_image::{constants_are_words, loops_can_compile};
+use set_in_image::{constants_are_words, loops_can_compile, snapshots_have_words};
 use std::alloc::{AllocError, Global};
 use trace_check::Checked;
 use trace_ops::{Origin, Trace, TraceSet};
@@ -35,8 +34,7 @@ pub fn image_text(alloc: Global, registers: u8, bytes: &[u8]) -> Result<Vec<u8>,
     made_pieces_promise();
     pieces_are_made();
     pieces_are_sound();
-    arena_hosts_do();
-    compiled_runs::<ArenaHost>();
+    compiled_images_show();
     let told = read_usable(alloc, Command::Image { registers }, bytes)?;
     match text_of(alloc, &told.checked, registers) {
         Ok(text) => Ok(text),
@@ -52,8 +50,10 @@ fn text_of(alloc: Global, checked: &Checked, registers: u8) -> Result<Vec<u8>, A
 {
     let set = checked.set();
     let pieces = OptimisedSet::new(alloc, checked)?;
+    let traces = pieces.traces();
+    snapshots_have_words(traces);
     let image = compiled(alloc, checked, &pieces, registers)?;
-    let mut out = write_opt(alloc, set, pieces.traces())?;
+    let mut out = write_opt(alloc, set, traces)?;
     put_printed(&mut out, set, &image)?;
     Ok(out)
 }

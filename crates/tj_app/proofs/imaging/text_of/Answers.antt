@@ -1,10 +1,16 @@
-use Rattle.std.proofs.Common.{List, ◌++◌, ap, ◌∙◌}
+use Rattle.std.proofs.Common.{List, ◌++◌, ap, subst, ◌∙◌}
+use Rattle.std.specs.List.{AllByRecursion}
 use Rattle.trace_ops.specs.declared.trace.TraceSet.{TraceSet}
 use Rattle.trace_ops.specs.declared.piece.OptTrace.{OptTrace}
+use Rattle.opt_meaning.specs.Pieces.{all_pieces}
+use Rattle.image_shows.specs.Laws.{HasSnapshotWords}
 use Rattle.trace_text.specs.PieceWriting.{opt_text}
 use Rattle.image_text.specs.Texts.{image_text}
 use Rattle.tj_app.specs.Imaging.{printed_of}
 use Rattle.tj_app.proofs.imaging.text_of.Goals as goal
+
+abbrev HaveWords : List OptTrace → Type 0
+HaveWords ts = AllByRecursion HasSnapshotWords (all_pieces ts)
 
 pub returns : goal.returns
 returns c =
@@ -16,6 +22,7 @@ returns c =
       pieces = pieces;
       optimised = c.in_ok-pieces.ensures.pieces;
       unattached = c.in_ok-pieces.ensures.attached;
+      words = subst HaveWords c.traces-traces.ensures c.snapshots_have_words.ensures;
       image = image;
       can = c.in_ok-image.ensures.can;
       made = made.0;
@@ -23,6 +30,6 @@ returns c =
       stands = made.1;
       written =
           c.in_ok-put_printed.ensures
-          ∙ ap (λ o. o ++ image_text set.result.now (printed_of set.result.now image)) (c.in_ok-out.ensures.text ∙ ap (λ (ts : List OptTrace). opt_text set.result.now ts) c.traces.ensures)
+          ∙ ap (λ o. o ++ image_text set.result.now (printed_of set.result.now image)) (c.in_ok-out.ensures.text ∙ ap (λ (ts : List OptTrace). opt_text set.result.now ts) c.traces-traces.ensures)
           ∙ ap (λ (s : TraceSet). opt_text s pieces.traces ++ image_text s (printed_of s image)) set.ensures.value;
     }

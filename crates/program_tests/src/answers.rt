@@ -28,7 +28,7 @@ fn failed_reads_and_writes_end_with_their_status(rt: HostRuntime) -> Result<(), 
         assert_eq!(rt; status, Status::ReadFault);
         assert_eq!(rt; sink.bytes(), b"error read\n".as_slice());
     }
-    let table: [(&str, &[u8]); 2] = [("run", b"erro"), ("check", b"ok t")];
+    let table: [(&str, &[u8]); 2] = [("run", b"%opt"), ("check", b"ok t")];
     for (word, taken) in table {
         let words = owned(rt.alloc(), &[word])?;
         let mut src = PlainSource::new(Vec::new(rt.alloc()));

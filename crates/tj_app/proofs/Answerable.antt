@@ -73,14 +73,14 @@ session_right input set s f told (other, there, checked, (why, fails, e)) =
     let same = same_set input set other told.stands there in
     lines_right (session_in set (session_part input)) s f why told.told (subst (λ x. lines.Fails why (session_in x (session_part input))) same fails) e
 
-none_needed : (c : Command) (set : TraceSet) (s : SessionText) (what : Unbuilt) → first_need c set s ≡ None → first_need c set s ≡ Some what → ⊥
-none_needed c set s what none some = let never : None ≡ Some what = sym none ∙ some in absurd (cc)
+none_needed : (c : Command) (s : SessionText) (what : Unbuilt) → first_need c s ≡ None → first_need c s ≡ Some what → ⊥
+none_needed c s what none some = let never : None ≡ Some what = sym none ∙ some in absurd (cc)
 
 built_right : (c : Command) (input : List ℕ) (set : TraceSet) (s : SessionText) (f : Fault) → IsBuilt c input set s → IsUnbuilt c input f → f ≡ fault.Memory
 built_right c input set s f built (other, t, told, (what, needed, e)) =
     let same_one = same_set input set other built.0.stands told.stands in
     let same_lines = same_ok (session_in set (session_part input)) t s (subst (λ x. session_in x (session_part input) ≡ Ok t) same_one told.told) built.0.told in
-    absurd (none_needed c set s what built.1 (subst (λ y. first_need c set y ≡ Some what) same_lines (subst (λ x. first_need c x t ≡ Some what) same_one needed)))
+    absurd (none_needed c s what built.1 (subst (λ y. first_need c y ≡ Some what) same_lines needed))
 
 untold_right : Refuses → (c : Command) (input : List ℕ) (set : TraceSet) (s : SessionText) (f : Fault) → IsBuilt c input set s → IsUntold c input f → f ≡ fault.Memory
 untold_right refuses c input set s f built (inl bad) = bad_right refuses input set f built.0.stands built.0.checked bad

@@ -24,9 +24,8 @@ use Rattle.image_runs.specs.Printed.{Printed}
 use Rattle.image_built.specs.Built.{settings_from}
 use Rattle.image_built.specs.Laws.{IsPrinted}
 use Rattle.image_shows.specs.Laws.{IsSoundPiece, CompiledImagesShow}
-use Rattle.tj_app.specs.declared.unbuilt.Unbuilt.TheVariants as un
-use Rattle.tj_app.specs.declared.words.Command.TheVariants as command
-use Rattle.tj_app.specs.Unbuilt.{line_needs}
+use Rattle.tj_app.specs.declared.words.Command.{Command}
+use Rattle.tj_app.specs.Unbuilt.{attaches}
 use Rattle.tj_app.specs.Telling.{IsBuilt}
 use Rattle.tj_app.specs.Opting.{Grants}
 use Rattle.tj_app.specs.Imaging.{exit_told, exits_of, printed_of, AllKeepToTheirTraces, AreTextsOf, IsImageText}
@@ -37,7 +36,7 @@ use Rattle.tj_app.proofs.Ready.{SetsHaveWords}
 
 -- ---- lines that attach nothing
 
-grants_nothing : (set : TraceSet) (ls : List Line) → list_any (line_needs un.Attach) ls ≡ false → Grants set [] ls []
+pub grants_nothing : (set : TraceSet) (ls : List Line) → list_any attaches ls ≡ false → Grants set [] ls []
 grants_nothing set [] h = refl
 grants_nothing set (line.Start a t vs answers ∷ ls) h = ([], refl, grants_nothing set ls h)
 grants_nothing set (line.Step a n ∷ ls) h = ([], refl, grants_nothing set ls h)
@@ -58,7 +57,7 @@ sound_pieces are_sound set o h =
     let labels = label_in (all_pieces o.traces) in
     each_weaker (IsSound set labels) (IsSoundPiece set) (λ p sound. (labels, sound)) (all_pieces o.traces) (are_sound set o h)
 
-all_keep : ImagesShow → OptimisedAreSound → (count : ℕ) (text : List ℕ) (set : TraceSet) (h : AreTextsOf count set text) → IsWellFormed set → HasWords set
+pub all_keep : ImagesShow → OptimisedAreSound → (count : ℕ) (text : List ℕ) (set : TraceSet) (h : AreTextsOf count set text) → IsWellFormed set → HasWords set
     → (ms : List Made) → pieces_of ms ≡ all_pieces h.pieces.traces → AreMade set h.pieces.attached ms → IsPrinted set (all_pieces h.pieces.traces) h.image (printed_of set h.image)
     → AllKeepToTheirTraces set (all_pieces h.pieces.traces) (printed_of set h.image)
 all_keep show are_sound count text set h well words ms pieces made as_printed arena_bytes s least most run =
@@ -71,12 +70,12 @@ all_keep show are_sound count text set h well words ms pieces made as_printed ar
 
 -- ---- the text
 
-pub imaged : SetsHaveWords → MadePiecesPromise → OptimisedAreMade → OptimisedAreSound → ImagesShow → (count : ℕ) (input text : List ℕ) (set : TraceSet) (session : SessionText) → IsBuilt (command.Image count) input set session → AreTextsOf count set text → IsImageText count input text
-imaged have promise are_made are_sound show count input text set session built h =
+abbrev pub imaged : SetsHaveWords → MadePiecesPromise → OptimisedAreMade → OptimisedAreSound → ImagesShow → (command : Command) (count : ℕ) (input text : List ℕ) (set : TraceSet) (session : SessionText) → IsBuilt command input set session → AreTextsOf count set text → IsImageText count input text
+imaged have promise are_made are_sound show command count input text set session built h =
     let told = built.0 in
     let words = have input (set, told.stands.0) told.stands.1 in
     let made = are_made set h.pieces told.checked.well_formed words h.optimised in
-    let none = subst (λ bs. Grants set [] session.lines bs) (sym h.unattached) (grants_nothing set session.lines (nothing_attached count set session built.1)) in
+    let none = subst (λ bs. Grants set [] session.lines bs) (sym h.unattached) (grants_nothing set session.lines (nothing_attached command session built.1)) in
     let as_printed = subst (λ ps. IsPrinted set ps h.image (printed_of set h.image)) made.1 (printed set h.pieces.attached made.0 h.image made.2) in
     record {
       front = opt_text set h.pieces.traces;

@@ -1,10 +1,7 @@
-pub mod Joined
 pub mod OnlyBuilt
-pub mod OneStart
-pub mod SeenLines
 pub mod Ready
 pub mod Opted
 pub mod Printed
 pub mod Imaged
+pub mod Ran
 pub mod Answerable
-pub mod HexLines

@@ -62,10 +62,18 @@ abbrev pub Reads : List (List ℕ) → Option Command → Type 0
 Reads words (Some command) = Asks words command
 Reads words None = IsNoForm words
 
--- `image` is asked for from 3 to 12 registers
-abbrev pub HasRegisters : Command → Type 0
-HasRegisters (Image registers) = (3 ≤ registers) × (registers ≤ 12)
-HasRegisters _ = Unit {0}
+-- so many registers may hold values, and so many bytes an arena may have
+abbrev pub AreCount : ℕ → Type 0
+AreCount registers = (3 ≤ registers) × (registers ≤ 12)
+
+abbrev pub AreBytes : ℕ → Type 0
+AreBytes arena = (arena % 8 ≡ 0) × (65536 ≤ arena) × (arena ≤ 16777216)
+
+-- what a command asks for lies within its limits
+abbrev pub IsWithin : Command → Type 0
+IsWithin (Image registers) = AreCount registers
+IsWithin (Run arena registers) = AreBytes arena × AreCount registers
+IsWithin _ = Unit {0}
 
 -- ---- what the parts of words are read as
 

@@ -1,6 +1,3 @@
-pub mod Output
-pub mod Session
-pub mod Running
 pub mod Refusing
 pub mod Asking
 pub mod Checking
@@ -9,4 +6,5 @@ pub mod Unbuilt
 pub mod Telling
 pub mod Opting
 pub mod Imaging
+pub mod Running
 pub mod Top

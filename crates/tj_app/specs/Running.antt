@@ -1,54 +1,38 @@
--- What is run, and the text that is added for it.
-use Rattle.std.specs.Prelude.{◌≡◌, ℕ, ◌<◌, ◌≤◌, false, List, [], ◌∷◌, ◌++◌, length, map}
+-- What `run` answers for an input.
+use Rattle.std.specs.Prelude.{◌≡◌, ℕ, List, [], ◌++◌, codes, length}
+use Rattle.std.specs.List.{All}
 use Rattle.trace_ops.specs.declared.trace.TraceSet.{TraceSet}
-use Rattle.trace_meaning.specs.declared.value.Value.{Value}
-use Rattle.session_text.specs.declared.session.Line.{Line}
-use Rattle.session_text.specs.declared.session.Line.TheVariants as line
+use Rattle.opt_meaning.specs.Pieces.{all_pieces}
 use Rattle.session_text.specs.declared.session.SessionText.{SessionText}
-use Rattle.straight_run.specs.declared.image.Image.{Image}
-use Rattle.straight_run.specs.Layout.{AreStraight, IsImage}
-use Rattle.tj_app.specs.Output.{started_text, image_text}
-use Rattle.tj_app.specs.Session.{word_of, AreSeen, AreRuns, IsSeen}
+use Rattle.session_host.specs.Hosting.{host_of}
+use Rattle.image_runs.specs.Session.{Session, Activation}
+use Rattle.image_built.specs.Running.{no_session}
+use Rattle.image_shows.specs.Keeping.{KeepsToItsTrace}
+use Rattle.image_shows.specs.Laws.{IsGivenWords}
+use Rattle.session_seen.specs.Lines.{AreLines}
+use Rattle.tj_app.specs.Imaging.{printed_of, AreTextsOf, IsImageText}
 
--- the first start, of one of so many loops
-abbrev pub IsStart : ℕ → Line → Type 0
-IsStart count (line.Start a t inputs answers) = (a ≡ 0) × (t < count) × (length inputs ≤ 64)
-IsStart count _ = ⊥
+-- the section of what is seen
+abbrev pub seen_section : List ℕ → List ℕ
+seen_section seen = codes "%seen\n" ++ seen
 
--- The session is the start of one activation of one of so many loops, and then runs.
-pub record IsOne (count : ℕ) (session : SessionText) : Type 0 where
-  pub name : List ℕ
-  pub start : Line
-  pub runs : List Line
-  pub names : session.names ≡ name ∷ []
-  pub lines : session.lines ≡ start ∷ runs
-  pub starts : IsStart count start
-  pub only : AreRuns runs
-  pub short : length runs ≤ 4096
-
--- straight loops, and a session with one activation of one of them
-pub record IsReady (set : TraceSet) (session : SessionText) : Type 0 where
-  pub straight : AreStraight set
-  pub few : length set.traces ≤ 256
-  pub one : IsOne (length set.traces) session
-
--- the text of an activation from its start on was added
-abbrev pub AddsLoop : Image → List ℕ → ℕ → List Value → List Line → List ℕ → List ℕ → Type 0
-AddsLoop image name number inputs runs old new =
-    (behind : List ℕ) × AreSeen image number (map word_of inputs) name 0 false runs behind × (new ≡ old ++ (started_text name ++ behind))
-
-abbrev pub AddsActivation : Image → List ℕ → Line → List Line → List ℕ → List ℕ → Type 0
-AddsActivation image name (line.Start a t inputs answers) runs old new = AddsLoop image name t inputs runs old new
-AddsActivation image name _ runs old new = ⊥
-
--- the text of the session was added
-abbrev pub AddsSession : Image → SessionText → List ℕ → List ℕ → Type 0
-AddsSession image session old new = (text : List ℕ) × IsSeen image session text × (new ≡ old ++ text)
-
--- the text of an image of the loops, and of the session over it
-pub record IsRunText (set : TraceSet) (session : SessionText) (text : List ℕ) : Type 0 where
-  pub image : Image
-  pub compiled : IsImage set image
+-- the texts of the pieces of all loops of a set, of their image, and of what is seen of a session over it, in arenas of so many bytes
+pub record AreSeenOf (arena_bytes count : ℕ) (set : TraceSet) (session : SessionText) (text : List ℕ) : Type 0 where
+  pub front : List ℕ
+  pub of : AreTextsOf count set front
+  pub after : Session
   pub seen : List ℕ
-  pub run : IsSeen image session seen
-  pub written : text ≡ image_text set image ++ seen
+  pub lines : AreLines (host_of set (all_pieces of.pieces.traces) arena_bytes) set (printed_of set of.image) session.names session.lines no_session after seen
+  pub written : text ≡ front ++ seen_section seen
+
+-- The text has three sections. The first two are a text that `image` may write for the input, of pieces and of their image, with
+-- all that is promised of it. The third is what is seen of the input's session, line by line, over this same printed image, with
+-- the host in arenas of so many bytes; and each activation that is seen keeps to the recorded trace that it was started for.
+pub record IsRunText (arena_bytes count : ℕ) (input text : List ℕ) : Type 0 where
+  pub front : List ℕ
+  pub image : IsImageText count input front
+  pub after : Session
+  pub seen : List ℕ
+  pub lines : AreLines (host_of image.opt.set (all_pieces image.opt.traces) arena_bytes) image.opt.set image.image image.opt.session.names image.opt.session.lines no_session after seen
+  pub written : text ≡ front ++ seen_section seen
+  pub keep : All (λ (act : Activation). IsGivenWords act → KeepsToItsTrace image.opt.set [] (length image.image.base) act) after.activations

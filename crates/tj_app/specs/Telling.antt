@@ -50,7 +50,7 @@ IsUnread input f = IsBad input f ⊎ IsBadSession input f
 -- the command, or the input that is right, needs something that isn't built, and this is the first of it
 abbrev pub IsUnbuilt : Command → List ℕ → Fault → Type 0
 IsUnbuilt command input f =
-    (set : TraceSet) × (s : SessionText) × Tells input set s × ((what : Unbuilt) × (first_need command set s ≡ Some what) × (f ≡ fault.NotBuilt (name_of what)))
+    (set : TraceSet) × (s : SessionText) × Tells input set s × ((what : Unbuilt) × (first_need command s ≡ Some what) × (f ≡ fault.NotBuilt (name_of what)))
 
 -- why a command other than `check` refuses an input
 abbrev pub IsUntold : Command → List ℕ → Fault → Type 0
@@ -58,4 +58,4 @@ IsUntold command input f = IsBad input f ⊎ (IsBadSession input f ⊎ IsUnbuilt
 
 -- nothing that isn't built is needed
 abbrev pub IsBuilt : Command → List ℕ → TraceSet → SessionText → Type 0
-IsBuilt command input set session = Tells input set session × (first_need command set session ≡ None)
+IsBuilt command input set session = Tells input set session × (first_need command session ≡ None)

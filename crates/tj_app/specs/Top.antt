@@ -3,58 +3,30 @@ use Rattle.std.specs.Prelude.{◌≡◌, ℕ, ◌≤◌, ◌⊎◌, ℤ, Option,
 use Rattle.std.specs.List.{All}
 use Rattle.std.specs.Io.KnownBytes.{Consumes, IsAtEnd, Appends}
 use Rattle.io_edge.specs.Causes.{Rose}
-use Rattle.trace_ops.specs.declared.trace.Trace.{Trace}
 use Rattle.trace_ops.specs.declared.trace.TraceSet.{TraceSet}
-use Rattle.trace_ops.specs.Words.{IsWord}
-use Rattle.trace_meaning.specs.declared.call.Answer.{Answer}
-use Rattle.trace_meaning.specs.Cuts.{Cuts}
 use Rattle.trace_ops.specs.declared.table.What.{What}
 use Rattle.trace_ops.specs.declared.table.What.TheVariants as counted
 use Rattle.session_text.specs.declared.session.SessionText.{SessionText}
-use Rattle.straight_run.specs.declared.image.Image.{Image}
-use Rattle.straight_run.specs.Layout.{AreStraight, IsImage}
-use Rattle.straight_run.specs.Behaving.{Behaves}
-use Rattle.x64_encode.specs.Listing.{IsWhole}
 use Rattle.tj_app.specs.declared.ending.Status.{Status}
 use Rattle.tj_app.specs.declared.refusal.Fault.{Fault}
 use Rattle.tj_app.specs.declared.refusal.Fault.TheVariants.{Syntax, Float, UnknownOp, UnknownDescr, UnknownBox, Twice, UnknownName, BadInitial, IllFormed, SessionBad, Usage, Read, Limit, Memory, NotBuilt}
 use Rattle.tj_app.specs.declared.words.Command.{Command}
-use Rattle.tj_app.specs.declared.words.Command.TheVariants.{Check, Opt, Image as ImageOf, Gen}
+use Rattle.tj_app.specs.declared.words.Command.TheVariants.{Check, Opt, Image as ImageOf, Run, Gen}
 use Rattle.tj_app.specs.Asking.{Asks}
 use Rattle.tj_app.specs.Counting.{IsCounted}
 use Rattle.tj_app.specs.Opting.{IsOptText}
 use Rattle.tj_app.specs.Imaging.{IsImageText}
+use Rattle.tj_app.specs.Running.{IsRunText}
 use Rattle.tj_app.specs.Telling.{Tells, IsBuilt, IsUnread, IsUntold}
 use Rattle.tj_app.specs.Refusing.{status_of, fault_text}
-use Rattle.tj_app.specs.Session.{IsSeen}
-use Rattle.tj_app.specs.Output.{image_text}
-
--- the image does what each loop does: for all inputs that are words, and as many as the loop's, whatever the answers and cuts
-abbrev pub AllBehave : TraceSet → Image → Type 0
-AllBehave set image =
-    (number : ℕ) (trace : Trace) (inputs : List ℤ) (answers : List Answer) (cuts : Cuts) → slice_get set.traces number ≡ Some trace → length inputs ≡ length trace.inputs → All IsWord inputs → Behaves set number image inputs answers cuts
-
--- The input stands for a set of straight loops and a session; the text is that of an image of these loops and of the
--- session over this same image; and the image does what the recorded traces do, for all inputs, its code being whole.
-pub record Ran (command : Command) (input text : List ℕ) : Type 0 where
-  pub set : TraceSet
-  pub session : SessionText
-  pub told : IsBuilt command input set session
-  pub straight : AreStraight set
-  pub image : Image
-  pub compiled : IsImage set image
-  pub seen : List ℕ
-  pub run : IsSeen image session seen
-  pub written : text ≡ image_text set image ++ seen
-  pub behaves : AllBehave set image
-  pub whole : IsWhole image.code
 
 -- the text that a command writes for an input
 abbrev pub IsTextFor : Command → List ℕ → List ℕ → Type 0
 IsTextFor Check input text = IsCounted input text
 IsTextFor (Opt n) input text = IsOptText input text
 IsTextFor (ImageOf n) input text = IsImageText n input text
-IsTextFor command input text = Ran command input text
+IsTextFor (Run arena n) input text = IsRunText arena n input text
+IsTextFor (Gen number size) input text = ⊥
 
 -- all of the source was read: it gave this input, of at most 16 MiB
 pub record IsRead (left left' : Option (List ℕ)) (input : List ℕ) : Type 0 where

@@ -3,8 +3,9 @@ ghost use Rattle.std.specs.Prelude.{◌≡◌, ◌≢◌, ◌≤◌, ◌<◌, �
 ghost use Rattle.std.specs.String.{string_bytes};
 ghost use Rattle.std.specs.Io.KnownBytes.{Appends};
 ghost use Rattle.io_edge.specs.Causes.{Rose};
-ghost use Rattle.tj_app.specs.Asking.{IsNoForm, HasRegisters};
+ghost use Rattle.tj_app.specs.Asking.{IsNoForm, IsWithin};
 ghost use Rattle.tj_app.specs.Refusing.{fault_text, status_of, Says};
+ghost use Rattle.tj_app.specs.Telling.{IsUntold};
 ghost use Rattle.tj_app.specs.Top.{Done, Answers, Causes, IsTextFor, IsRefusedBy, IsInput, IsRead, Refuses};
 
 use crate::counting::counts;
@@ -13,6 +14,8 @@ use crate::imaging::image_text;
 use crate::opting::opt_text;
 use crate::refusal::{Fault, fault_line};
 use crate::running::run_text;
+use crate::telling::read_told;
+use crate::unbuilt::Unbuilt;
 use crate::words::{Command, command_of};
 use io_edge::{ReadEnd, Sink, Source, read_all, write_all};
 use std::alloc::Global;
@@ -78,7 +81,7 @@ fn refuse<K: Sink>(alloc: Global, fault: &Fault, sink: &mut K) -> Status
 
 // The command's text for the source's input.
 fn answer<S: Source>(alloc: Global, command: Command, src: &mut S) -> Result<Vec<u8>, Fault>
-    requires { HasRegisters command }
+    requires { IsWithin command }
     ensures { MatchResult result (λ text. Answers command (S.left src.old) (S.left src.new) text.items) (λ fault. Causes command fault (S.left src.old) (S.left src.new) (S.faults src.old) (S.faults src.new)) }
 {
     let bytes = input(alloc, command, src)?;
@@ -113,13 +116,26 @@ fn all_of<S: Source>(alloc: Global, src: &mut S) -> Result<Vec<u8>, Fault>
 // The command's text for an input.
 fn text_for(alloc: Global, command: Command, bytes: &[u8]) -> Result<Vec<u8>, Fault>
     requires within { length bytes.now ≤ 16777216 }
-    requires registers { HasRegisters command }
+    requires asked { IsWithin command }
     ensures { MatchResult result (λ text. IsTextFor command bytes.now text.items) (IsRefusedBy command bytes.now) }
 {
     match command {
         Command::Check => counts(alloc, bytes),
         Command::Opt { registers: _ } => opt_text(alloc, bytes),
         Command::Image { registers } => image_text(alloc, registers, bytes),
-        _ => run_text(alloc, command, bytes),
+        Command::Run { arena, registers } => run_text(alloc, arena, registers, bytes),
+        Command::Gen { number, size } => generated(alloc, number, size, bytes),
     }
+}
+
+// The summary of a generated input's session, which isn't built.
+fn generated(alloc: Global, number: u64, size: u32, bytes: &[u8]) -> Result<Vec<u8>, Fault>
+    requires { length bytes.now ≤ 16777216 }
+    ensures { MatchResult result (λ text. IsTextFor (Command.Gen number size) bytes.now text.items) (IsUntold (Command.Gen number size) bytes.now) }
+{
+    let _ = (number, size);
+    let _told = read_told(alloc, bytes)?;
+    Err(Fault::NotBuilt {
+        what: Unbuilt::Gen.name(),
+    })
 }

@@ -81,8 +81,8 @@ fn compiled(
     Image::compile(alloc, set, traces, registers)
 }
 
-// Adds an image to which no bridge is attached.
-fn put_printed(out: &mut Vec<u8>, set: &TraceSet, image: &Image) -> Result<(), AllocError>
+/// Adds an image to which no bridge is attached.
+pub fn put_printed(out: &mut Vec<u8>, set: &TraceSet, image: &Image) -> Result<(), AllocError>
     requires few { length set.now.traces ≤ 256 }
     requires stands { (placed : Items Placed) × IsImageOf set.now placed image.now }
     requires unchanged { image.now.changes ≡ [] }

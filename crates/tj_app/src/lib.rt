@@ -11,8 +11,6 @@ mod opting;
 mod puts;
 mod refusal;
 mod running;
-mod session;
-mod straight_text;
 mod telling;
 mod unbuilt;
 mod words;

@@ -1,115 +1,82 @@
 //! The answer of `run` to an input.
-ghost use Rattle.std.specs.Prelude.{ℕ, ◌≢◌, ◌≤◌, ◌<◌, ◌^◌, length, IfOk, OnOk, MatchResult};
-ghost use Rattle.tj_app.specs.Session.{AreRuns};
-ghost use Rattle.tj_app.specs.Running.{IsStart, IsOne, IsReady, IsRunText, AddsLoop, AddsActivation, AddsSession};
+ghost use Rattle.std.specs.Prelude.{◌≡◌, ◌≤◌, ◌++◌, [], length, IfOk, OnOk, MatchResult};
+ghost use Rattle.std.specs.List.{All};
+ghost use Rattle.session_text.specs.Fits.{FitsSet};
+ghost use Rattle.session_seen.specs.Keeping.{AttachesNone};
+ghost use Rattle.tj_app.specs.Asking.{AreBytes, AreCount};
+ghost use Rattle.tj_app.specs.Running.{IsRunText, AreSeenOf, seen_section};
 ghost use Rattle.tj_app.specs.Telling.{IsUntold};
-ghost use Rattle.tj_app.specs.Top.{Ran};
 
+use crate::imaging::put_printed;
 use crate::refusal::Fault;
-use crate::session::{put_runs, put_started, words_of};
-use crate::straight_text::put_image;
-use crate::telling::read_usable;
+use crate::telling::{Told, read_usable};
 use crate::words::Command;
-use session_text::{Line, SessionText};
+use image_shows::compiled_images_show;
+use opt_promise::made_pieces_promise;
+use opt_set::{pieces_are_made, pieces_are_sound};
+use run_session::Session;
+use session_seen::{lines_are_a_run, put_lines};
+use session_text::SessionText;
+use set_in_image::snapshots_have_words;
 use std::alloc::{AllocError, Global};
-use straight_run::{
-    Image, compile, images_are_whole, images_behave, well_formed_sets_are_straight,
-};
-use trace_meaning::Value;
-use trace_ops::TraceSet;
-use trace_text::text_laws;
+use trace_check::Checked;
+use trace_text::{text_laws, write_opt};
 
-/// The image of an input's loops, and what is seen of its session, or why there is none.
-pub fn run_text(alloc: Global, command: Command, bytes: &[u8]) -> Result<Vec<u8>, Fault>
+/// The pieces of an input's loops, their image, and what is seen of its session over that, with arenas of so many bytes and so
+/// many registers; or why there is none.
+pub fn run_text(alloc: Global, arena: u32, registers: u8, bytes: &[u8]) -> Result<Vec<u8>, Fault>
     requires within { length bytes.now ≤ 16777216 }
-    requires other { (n : ℕ) → command ≢ Command.Image n }
-    ensures { MatchResult result (λ text. Ran command bytes.now text.items) (IsUntold command bytes.now) }
+    requires arena { AreBytes arena }
+    requires registers { AreCount registers }
+    ensures { MatchResult result (λ text. IsRunText arena registers bytes.now text.items) (IsUntold (Command.Run arena registers) bytes.now) }
 {
     text_laws();
-    well_formed_sets_are_straight();
-    images_behave();
-    images_are_whole();
-    let usable = read_usable(alloc, command, bytes)?;
-    match text_of(alloc, usable.checked.set(), &usable.session) {
+    made_pieces_promise();
+    pieces_are_made();
+    pieces_are_sound();
+    compiled_images_show();
+    lines_are_a_run();
+    let command = Command::Run { arena, registers };
+    let Told { checked, session } = read_usable(alloc, command, bytes)?;
+    match text_of(alloc, checked, &session, arena, registers) {
         Ok(text) => Ok(text),
         Err(_) => Err(Fault::Memory),
     }
 }
 
-// The texts of straight loops and a session with one activation.
-fn text_of(alloc: Global, set: &TraceSet, session: &SessionText) -> Result<Vec<u8>, AllocError>
-    requires { IsReady set.now session.now }
-    ensures { IfOk result (λ text. IsRunText set.now session.now text.items) }
+// The texts of the pieces of all loops, of their image, and of what is seen of the session.
+fn text_of(
+    alloc: Global,
+    checked: Checked,
+    session: &SessionText,
+    arena: u32,
+    registers: u8,
+) -> Result<Vec<u8>, AllocError>
+    requires arena { AreBytes arena }
+    requires registers { AreCount registers }
+    requires fits { FitsSet checked session.now }
+    requires none { All AttachesNone session.now.lines }
+    ensures { IfOk result (λ text. AreSeenOf arena registers checked session.now text.items) }
 {
-    images_are_whole();
-    let image = compile(alloc, set)?;
-    let mut out = Vec::new(alloc);
-    put_image(&mut out, set, &image)?;
-    put_session(alloc, &mut out, &image, session)?;
+    let mut live = Session::new(alloc, checked, registers, u64::from(arena))?;
+    snapshots_have_words(live.opt());
+    let mut seen = Vec::new(alloc);
+    put_lines(
+        &mut seen,
+        &mut live,
+        session.names.items(),
+        session.lines.items(),
+    )?;
+    let mut out = write_opt(alloc, live.set(), live.opt())?;
+    put_printed(&mut out, live.set(), live.image())?;
+    put_seen(&mut out, &seen)?;
     Ok(out)
 }
 
-// Adds what is seen of a session with one activation.
-fn put_session(
-    alloc: Global,
-    out: &mut Vec<u8>,
-    image: &Image,
-    session: &SessionText,
-) -> Result<(), AllocError>
-    requires one { IsOne (length image.now.loops) session.now }
-    requires small { length image.now.code < 2 ^ 28 }
-    ensures { OnOk result (AddsSession image.now session.now out.old.items out.new.items) }
+// Adds the section of what is seen.
+fn put_seen(out: &mut Vec<u8>, seen: &[u8]) -> Result<(), AllocError>
+    ensures { OnOk result (out.new.items ≡ out.old.items ++ seen_section seen.now) }
 {
-    match (session.names.items(), session.lines.items()) {
-        ([name], [start, runs @ ..]) => {
-            put_activation(alloc, out, image, name.bytes(), start, runs)
-        }
-        _ => Ok(()),
-    }
-}
-
-fn put_activation(
-    alloc: Global,
-    out: &mut Vec<u8>,
-    image: &Image,
-    name: &[u8],
-    start: &Line,
-    runs: &[Line],
-) -> Result<(), AllocError>
-    requires starts { IsStart (length image.now.loops) start.now }
-    requires small { length image.now.code < 2 ^ 28 }
-    requires only { AreRuns runs.now }
-    requires short { length runs.now ≤ 4096 }
-    ensures { OnOk result (AddsActivation image.now name.now start.now runs.now out.old.items out.new.items) }
-{
-    match start {
-        Line::Start {
-            activation: _,
-            trace,
-            inputs,
-            answers: _,
-        } => put_loop(alloc, out, image, name, *trace, inputs.items(), runs),
-        _ => Ok(()),
-    }
-}
-
-fn put_loop(
-    alloc: Global,
-    out: &mut Vec<u8>,
-    image: &Image,
-    name: &[u8],
-    number: u32,
-    inputs: &[Value],
-    runs: &[Line],
-) -> Result<(), AllocError>
-    requires there { number < length image.now.loops }
-    requires few { length inputs.now ≤ 64 }
-    requires small { length image.now.code < 2 ^ 28 }
-    requires only { AreRuns runs.now }
-    requires short { length runs.now ≤ 4096 }
-    ensures { OnOk result (AddsLoop image.now name.now number inputs.now runs.now out.old.items out.new.items) }
-{
-    let words = words_of(alloc, inputs)?;
-    put_started(out, name)?;
-    put_runs(alloc, out, image, number, &words, name, runs)
+    out.extend_from_slice(b"%seen\n")?;
+    out.extend_from_slice(seen)
 }

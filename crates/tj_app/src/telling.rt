@@ -39,7 +39,7 @@ pub fn read_usable(alloc: Global, command: Command, bytes: &[u8]) -> Result<Told
     ensures { MatchResult result (λ t. IsBuilt command bytes.now t.checked t.session × FitsSet t.checked t.session) (IsUntold command bytes.now) }
 {
     let told = read_told(alloc, bytes)?;
-    match first_need(command, told.checked.set(), &told.session) {
+    match first_need(command, &told.session) {
         None => Ok(told),
         Some(what) => Err(Fault::NotBuilt { what: what.name() }),
     }

@@ -1,7 +1,7 @@
 //! The words of the program, and the command that they ask for.
 ghost use Rattle.std.specs.Prelude.{◌≡◌, ◌↔◌, ◌≤◌, ℕ, List, [], ◌∷◌, codes, map, slice_index, IsTrue, IfSome};
 ghost use Rattle.std.specs.String.{string_bytes};
-ghost use Rattle.tj_app.specs.Asking.{Asks, IsShort, Reads, ReadsNumber, ReadsArena, ReadsRegisters, ReadsCount, ReadsOptions, ReadsSeedAndSize, HasRegisters};
+ghost use Rattle.tj_app.specs.Asking.{Asks, IsShort, Reads, ReadsNumber, ReadsArena, ReadsRegisters, ReadsCount, ReadsOptions, ReadsSeedAndSize, AreCount, AreBytes, IsWithin};
 
 use text_lines::decimal_of;
 
@@ -37,7 +37,7 @@ pub enum Command {
 /// The command that the words ask for, where they ask for one.
 pub fn command_of(words: &[String]) -> Option<Command>
     ensures read { Reads (map string_bytes words.now) result }
-    ensures registers { IfSome result HasRegisters }
+    ensures within { IfSome result IsWithin }
 {
     match words {
         [] => None,
@@ -47,7 +47,7 @@ pub fn command_of(words: &[String]) -> Option<Command>
 
 fn command_named(name: &String, options: &[String]) -> Option<Command>
     ensures read { Reads (string_bytes name.now ∷ map string_bytes options.now) result }
-    ensures registers { IfSome result HasRegisters }
+    ensures within { IfSome result IsWithin }
 {
     if is_key(name, b"check") {
         return check_of(options);
@@ -73,7 +73,7 @@ fn command_named(name: &String, options: &[String]) -> Option<Command>
 
 fn check_of(options: &[String]) -> Option<Command>
     ensures read { Reads (codes "check" ∷ map string_bytes options.now) result }
-    ensures registers { IfSome result HasRegisters }
+    ensures within { IfSome result IsWithin }
 {
     if options.is_empty() {
         Some(Command::Check)
@@ -85,7 +85,7 @@ fn check_of(options: &[String]) -> Option<Command>
 // How many registers hold values.
 fn registers_of(options: &[String]) -> Option<u8>
     ensures read { ReadsCount (map string_bytes options.now) result }
-    ensures within { IfSome result (λ n. (3 ≤ n) × (n ≤ 12)) }
+    ensures within { IfSome result AreCount }
 {
     match options {
         [] => Some(DEFAULT_REGISTERS),
@@ -96,7 +96,8 @@ fn registers_of(options: &[String]) -> Option<u8>
 
 // The bytes of the arena, and how many registers hold values.
 fn options_of(options: &[String]) -> Option<(u32, u8)>
-    ensures { ReadsOptions (map string_bytes options.now) result }
+    ensures read { ReadsOptions (map string_bytes options.now) result }
+    ensures within { IfSome result (λ o. AreBytes o.0 × AreCount o.1) }
 {
     match options {
         [] => Some((DEFAULT_ARENA, DEFAULT_REGISTERS)),
@@ -106,7 +107,8 @@ fn options_of(options: &[String]) -> Option<(u32, u8)>
 }
 
 fn some_options(key: &String, word: &String, more: &[String]) -> Option<(u32, u8)>
-    ensures { ReadsOptions (string_bytes key.now ∷ string_bytes word.now ∷ map string_bytes more.now) result }
+    ensures read { ReadsOptions (string_bytes key.now ∷ string_bytes word.now ∷ map string_bytes more.now) result }
+    ensures within { IfSome result (λ o. AreBytes o.0 × AreCount o.1) }
 {
     match more {
         [] => one_option(key, word),
@@ -116,7 +118,8 @@ fn some_options(key: &String, word: &String, more: &[String]) -> Option<(u32, u8
 }
 
 fn one_option(key: &String, word: &String) -> Option<(u32, u8)>
-    ensures { ReadsOptions (string_bytes key.now ∷ string_bytes word.now ∷ []) result }
+    ensures read { ReadsOptions (string_bytes key.now ∷ string_bytes word.now ∷ []) result }
+    ensures within { IfSome result (λ o. AreBytes o.0 × AreCount o.1) }
 {
     match arena_in(key, word) {
         Some(arena) => Some((arena, DEFAULT_REGISTERS)),
@@ -128,7 +131,8 @@ fn one_option(key: &String, word: &String) -> Option<(u32, u8)>
 }
 
 fn two_options(key: &String, word: &String, next: &String, last: &String) -> Option<(u32, u8)>
-    ensures { ReadsOptions (string_bytes key.now ∷ string_bytes word.now ∷ string_bytes next.now ∷ string_bytes last.now ∷ []) result }
+    ensures read { ReadsOptions (string_bytes key.now ∷ string_bytes word.now ∷ string_bytes next.now ∷ string_bytes last.now ∷ []) result }
+    ensures within { IfSome result (λ o. AreBytes o.0 × AreCount o.1) }
 {
     match arena_in(key, word) {
         Some(arena) => {
@@ -144,7 +148,8 @@ fn two_options(key: &String, word: &String, next: &String, last: &String) -> Opt
 }
 
 fn arena_in(key: &String, word: &String) -> Option<u32>
-    ensures { ReadsArena (string_bytes key.now) (string_bytes word.now) result }
+    ensures read { ReadsArena (string_bytes key.now) (string_bytes word.now) result }
+    ensures within { IfSome result AreBytes }
 {
     if !is_key(key, b"--arena") {
         return None;
@@ -159,7 +164,7 @@ fn arena_in(key: &String, word: &String) -> Option<u32>
 
 fn registers_in(key: &String, word: &String) -> Option<u8>
     ensures read { ReadsRegisters (string_bytes key.now) (string_bytes word.now) result }
-    ensures within { IfSome result (λ n. (3 ≤ n) × (n ≤ 12)) }
+    ensures within { IfSome result AreCount }
 {
     if !is_key(key, b"--registers") {
         return None;

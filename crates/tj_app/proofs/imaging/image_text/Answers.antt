@@ -1,7 +1,8 @@
+use Rattle.tj_app.specs.declared.words.Command.TheVariants as command
 use Rattle.tj_app.proofs.Imaged.{imaged}
 use Rattle.tj_app.proofs.imaging.image_text.Goals as goal
 
 pub returns-in-Ok : goal.returns-in-Ok
 returns-in-Ok c =
     let told = c.in_ok-told.told in
-    imaged c.text_laws.ensures.words c.made_pieces_promise.ensures c.pieces_are_made.ensures c.pieces_are_sound.ensures c.compiled_images_show.ensures c.args.registers c.args.bytes.now c.in-Ok.text.items told.checked told.session c.in_ok-told.ensures.0 c.in-Ok.ensures
+    imaged c.text_laws.ensures.words c.made_pieces_promise.ensures c.pieces_are_made.ensures c.pieces_are_sound.ensures c.compiled_images_show.ensures (command.Image c.args.registers) c.args.registers c.args.bytes.now c.in-Ok.text.items told.checked told.session c.in_ok-told.ensures.0 c.in-Ok.ensures

@@ -4,5 +4,4 @@ use Rattle.tj_app.specs.Unbuilt.{needs}
 use Rattle.tj_app.proofs.unbuilt.first_of.Given as goal
 
 abbrev pub invariant-loop-what : goal.invariant-loop-what
-invariant-loop-what l =
-    find (needs l.fn.command l.fn.set l.fn.session) (drop l.what-index l.order) ≡ find (needs l.fn.command l.fn.set l.fn.session) l.order
+invariant-loop-what l = find (needs l.fn.command l.fn.session) (drop l.what-index l.order) ≡ find (needs l.fn.command l.fn.session) l.order

@@ -1,5 +1,5 @@
 -- A machine at its start.
-use Rattle.std.proofs.Common.{◌≡◌, ℕ, zero, suc, ◌+◌, ◌*◌, ◌<◌, ◌≤◌, List, [], ◌∷◌, length, map, ℤ, pos, Option, Some, None, Result, Ok, Err, refl, ap, sym, ◌∙◌, subst, arith}
+use Rattle.std.proofs.Common.{◌≡◌, ℕ, zero, suc, ◌+◌, ◌*◌, ◌<◌, List, [], ◌∷◌, length, map, ℤ, pos, Option, Some, None, Result, Ok, Err, refl, ap, sym, ◌∙◌, subst, arith}
 use Rattle.std.specs.Prelude.{slice_get, IfOk}
 use Rattle.std.specs.List.{All}
 use Rattle.std.specs.Option.{IsSomeAnd}
@@ -17,7 +17,7 @@ use Rattle.trace_meaning.specs.Starting.{IsPrebuiltOrNone, Starts, StartsLoop}
 use Rattle.arena_objects.specs.Layout.{address_of, word_of, words_in, words_before}
 use Rattle.arena_objects.specs.ReadBack.{or_zero}
 use Rattle.arena_objects.specs.Starting.{first_objects, first_words}
-use Rattle.arena_world.specs.Prebuilt.{HostKnows, IsHostOf, addresses_from, prebuilt_addresses, word_at}
+use Rattle.arena_world.specs.Prebuilt.{HostKnows, IsHostOf, addresses_from, word_at}
 use Rattle.x64_machine.specs.State.{State}
 use Rattle.x64_machine.specs.Start.{IsStart, first_arena}
 use Rattle.session_host.specs.Hosting.{IsStarted}

@@ -12,7 +12,6 @@ use Rattle.trace_ops.specs.declared.table.Table.{Table}
 use Rattle.trace_ops.specs.declared.table.ShapeOf.{ShapeOf}
 use Rattle.trace_ops.specs.declared.table.ShapeOf.TheVariants.{Size, Array}
 use Rattle.trace_ops.specs.declared.trace.Kind.{Kind}
-use Rattle.trace_ops.specs.declared.trace.Kind.TheVariants as kind
 use Rattle.trace_ops.specs.declared.piece.Spot.TheVariants.{Field}
 use Rattle.trace_ops.specs.Kinds.{kind_of_field}
 use Rattle.target_base.specs.Arena.{Arena, arena_word}

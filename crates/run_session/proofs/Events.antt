@@ -1,10 +1,8 @@
 -- An event of an activation, beside one of the run.
-use Rattle.std.proofs.Common.{◌≡◌, ◌≢◌, ◌↔◌, ◌⊎◌, inl, inr, ℕ, ◌+◌, ◌*◌, ◌-◌, ◌<◌, ◌≤◌, ◌^◌, Bool, true, false, IsTrue, List, [], ◌∷◌, drop, length, Option, Some, None, refl, ap, sym, ◌∙◌, subst, arith}
+use Rattle.std.proofs.Common.{◌≡◌, ◌≢◌, ◌↔◌, ◌⊎◌, inl, inr, ℕ, ◌+◌, ◌*◌, ◌-◌, Bool, true, false, IsTrue, List, [], drop, length, Option, Some, None, refl, ap, sym, ◌∙◌, subst, arith}
 use Rattle.trace_ops.specs.declared.piece.Piece.{Piece}
 use Rattle.trace_ops.specs.declared.table.Table.{Table}
 use Rattle.trace_ops.specs.declared.trace.TraceSet.{TraceSet}
-use Rattle.trace_meaning.specs.declared.value.Store.{Store}
-use Rattle.trace_meaning.specs.declared.state.RecState.{RecState}
 use Rattle.trace_meaning.specs.declared.state.RecState.TheVariants as state
 use Rattle.guard_exit.specs.declared.row.ExitRow.{ExitRow}
 use Rattle.arena_objects.specs.Starting.{first_words}
@@ -28,8 +26,8 @@ use Rattle.run_session.specs.declared.now.Now.{Now}
 use Rattle.run_session.specs.declared.now.Now.TheVariants as now
 use Rattle.run_session.specs.Given.{HostAnswers}
 use Rattle.run_session.specs.Outcomes.{calls_of, EndsNow, CameOut, ShownNow}
-use Rattle.run_session.specs.Returning.{ReturnsSo, IsShownBy, IsLost, IsExited}
-use Rattle.run_session.specs.Sessions.{Active, Tells, StandsAs, IsShown, HasExited}
+use Rattle.run_session.specs.Returning.{ReturnsSo, IsShownBy, IsLost}
+use Rattle.run_session.specs.Sessions.{Active, Tells, StandsAs}
 use Rattle.run_session.specs.Turning.{Settles, MakesEvent}
 use Rattle.run_session.specs.Viewed.{seen_of, taken_by}
 

@@ -1,5 +1,5 @@
 -- What is kept of an activation behind an event.
-use Rattle.std.proofs.Common.{◌≡◌, ◌≢◌, ℕ, ◌+◌, ◌*◌, ◌<◌, ◌≤◌, Bool, true, false, List, [], length, Option, Some, None, refl, ap, sym, ◌∙◌, subst, arith}
+use Rattle.std.proofs.Common.{◌≡◌, ◌≢◌, ℕ, ◌+◌, ◌*◌, ◌≤◌, Bool, true, false, List, [], length, ap, sym, ◌∙◌, subst, arith}
 use Rattle.std.specs.Prelude.{slice_index_or}
 use Rattle.trace_ops.specs.declared.piece.Piece.{Piece}
 use Rattle.trace_ops.specs.declared.table.Table.{Table}
@@ -19,11 +19,9 @@ use Rattle.run_session.specs.declared.active.Active.{Active as Kept}
 use Rattle.run_session.specs.declared.now.Now.{Now}
 use Rattle.run_session.specs.declared.now.Now.TheVariants as now
 use Rattle.run_session.specs.Answers.{KeptFor}
-use Rattle.run_session.specs.Logging.{Logging, Serves, HasSheets, ServesAll}
-use Rattle.trace_ops.specs.declared.table.CallRow.{CallRow}
+use Rattle.run_session.specs.Logging.{Logging, HasSheets, ServesAll}
 use Rattle.run_session.specs.Keeping.{IsKept, AreReserved}
-use Rattle.run_session.specs.Outcomes.{calls_of, CameOut, EndsNow}
-use Rattle.run_session.specs.Returning.{ReturnsSo}
+use Rattle.run_session.specs.Outcomes.{calls_of, CameOut}
 use Rattle.run_session.specs.Turning.{Settles, MakesOne, KeepsGiven}
 use Rattle.run_session.specs.Viewed.{seen_of}
 use Rattle.run_session.proofs.Events.{ends_not}
@@ -83,6 +81,7 @@ module _ (set : TraceSet) (ps : List Piece) (heres : List PieceHere) (rows : Lis
         failures = omega (arith, k.failures, fails, le);
         first = ap (λ a. a.first_taken) same ∙ k.first;
         last = λ g. absurd (let w = sym is ∙ g in cc);
+        frames = λ g. absurd (let w = sym is ∙ g in cc);
       }
 
   kept_settled : IsKept set.table heres old → old.stands ≡ now.Going → (turn : Turn) → new.machine.instructions ≡ old.machine.instructions + made_by turn → Settles set.table ps rows turn counts (record old { machine = m }) new x → IsKept set.table heres (record new { stands = x })
@@ -95,6 +94,7 @@ module _ (set : TraceSet) (ps : List Piece) (heres : List PieceHere) (rows : Lis
         failures = (let few = at_most_one counts in omega (arith, k.failures, fails, e, few));
         first = ap (λ a. a.first_taken) s.1 ∙ k.first;
         last = λ g. ap (λ a. a.last_taken) s.1 ∙ k.last going;
+        frames = λ g. ap (λ a. a.rebuilt.frames) s.1 ∙ k.frames going;
       }
     where
       at_most_one : (b : Bool) → one_if b ≤ 1
@@ -109,6 +109,7 @@ module _ (set : TraceSet) (ps : List Piece) (heres : List PieceHere) (rows : Lis
         failures = omega (arith, k.failures, fails, e);
         first = ap (λ a. a.first_taken) s.same ∙ k.first;
         last = λ g. absurd (s.ended g);
+        frames = λ g. absurd (s.ended g);
       }
   kept_settled k going (Stopped (HostCall entry)) e s =
       let fails = ap (λ a. a.failures) s.same in record {
@@ -119,6 +120,7 @@ module _ (set : TraceSet) (ps : List Piece) (heres : List PieceHere) (rows : Lis
         failures = omega (arith, k.failures, fails, e);
         first = ap (λ a. a.first_taken) s.same ∙ k.first;
         last = λ g. ap (λ a. a.last_taken) s.same ∙ k.last going;
+        frames = λ g. ap (λ a. a.rebuilt.frames) s.same ∙ k.frames going;
       }
   kept_settled k going (Stopped (BadAddress at)) e s = kept_wrong k at s.0 s.1 (omega (arith, e))
   kept_settled k going (Stopped (BadCode at)) e s = kept_wrong k at s.0 s.1 (omega (arith, e))

@@ -26,3 +26,10 @@ pub mod Parts
 pub mod Rebuilds
 pub mod Serving
 pub mod Nths
+pub mod Rooms
+pub mod GoingOn
+pub mod Attached
+pub mod Changes
+pub mod Widened
+pub mod Grown
+pub mod Attachments

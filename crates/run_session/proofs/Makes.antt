@@ -1,5 +1,5 @@
 -- New objects behind the others, and how the machine goes on with them.
-use Rattle.std.proofs.Common.{◌≡◌, ℕ, ◌+◌, ◌-◌, ◌*◌, ◌^◌, ◌<◌, ◌≤◌, Bool, true, false, FitsSigned, ℤ, pos, negsuc, List, length, slice_get, Option, Some, None, Result, Ok, Err, min, nat_le, IsSome, IsErr, OnOk, refl, sym, ap, ◌∙◌, subst, arith}
+use Rattle.std.proofs.Common.{◌≡◌, ℕ, ◌+◌, ◌-◌, ◌^◌, ◌≤◌, true, false, FitsSigned, ℤ, pos, negsuc, List, length, slice_get, Option, Some, None, Result, Ok, Err, min, nat_le, IsSome, IsErr, OnOk, refl, sym, ap, ◌∙◌, subst, arith}
 use Rattle.std.specs.Int.{w64}
 use Rattle.std.specs.List.{Contains}
 use Rattle.std.proofs.lemmas.List.{length-map, length-replicate}
@@ -22,7 +22,7 @@ use Rattle.x64_machine.specs.State.{State, reg, rsp, word_at, resumed}
 use Rattle.x64_machine.specs.Kept.{IsAtHostCall}
 use Rattle.image_runs.specs.Session.{Calls}
 use Rattle.session_host.specs.Entries.{back_of, gives_back}
-use Rattle.session_host.specs.Answering.{parts_for, bytes_asked, full_by, made, made_if}
+use Rattle.session_host.specs.Answering.{parts_for, bytes_asked, made}
 use Rattle.trace_ops.specs.declared.table.CallRow.{CallRow}
 use Rattle.trace_meaning.specs.declared.call.Answer.{Answer}
 use Rattle.arena_world.specs.declared.answering.Refused.{Refused}

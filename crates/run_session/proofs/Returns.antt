@@ -1,10 +1,9 @@
 -- What a return shows.
-use Rattle.std.proofs.Common.{◌≡◌, ◌≢◌, ◌↔◌, ◌⊎◌, inl, inr, ℕ, ◌+◌, ◌<◌, ◌≤◌, ◌^◌, ◌-◌, min, Bool, true, false, nat_le, List, [], Option, Some, None, Result, Ok, Err, refl, ap, sym, ◌∙◌, subst, arith}
+use Rattle.std.proofs.Common.{◌≡◌, ◌≢◌, ℕ, ◌<◌, ◌^◌, ◌-◌, min, Bool, true, false, nat_le, List, [], Option, Some, None, Result, Ok, Err, refl, ap, sym, ◌∙◌, subst}
 use Rattle.std.specs.Prelude.{IfOk, IfErr}
 use Rattle.std.specs.Option.{option_map}
 use Rattle.std.proofs.lemmas.Bool.{leb-false, lt-leb}
 use Rattle.target_base.specs.Arena.{Arena}
-use Rattle.std.specs.List.{Contains}
 use Rattle.trace_ops.specs.declared.piece.Piece.{Piece}
 use Rattle.trace_ops.specs.declared.piece.Snapshot.{Snapshot}
 use Rattle.trace_ops.specs.declared.table.Table.{Table}
@@ -18,20 +17,17 @@ use Rattle.arena_objects.specs.ReadBack.{objects_in}
 use Rattle.bridge_patch.specs.declared.image.PieceHere.{PieceHere}
 use Rattle.opt_meaning.specs.Pieces.{ops_at, last_of}
 use Rattle.opt_meaning.specs.Rebuilding.{snapshot_in}
-use Rattle.resume_numbering.specs.declared.rows.ResumeTable.{ResumeTable}
-use Rattle.resume_numbering.specs.Reading.{StandsAt}
-use Rattle.resume_rebuild.specs.Guarding.{ArePlaced, RebuildsAt}
 use Rattle.resume_rebuild.specs.Rebuilding.{asked_for, rebuilt_arena, rebuilt_frames}
-use Rattle.resume_rebuild.specs.Reserved.{Holding, IsReserved, Gives}
-use Rattle.x64_machine.specs.State.{State, reg}
+use Rattle.resume_rebuild.specs.Reserved.{Holding, Gives}
+use Rattle.x64_machine.specs.State.{State}
 use Rattle.image_runs.specs.Session.{End, Shows, Full, Waiting, Misfitting, Lost}
-use Rattle.session_host.specs.Showing.{shown_of, shown_by, finish_of, finished_at, exited_if, exited_at, exited_unless, stray_at}
+use Rattle.session_host.specs.Showing.{shown_by, finish_of, finished_at, exited_if, exited_at, exited_unless, stray_at}
 use Rattle.run_session.specs.declared.active.Active.{Active as Kept}
 use Rattle.run_session.specs.declared.now.Now.{Now}
 use Rattle.run_session.specs.declared.now.Now.TheVariants as now
-use Rattle.run_session.specs.Keeping.{RebuildsBy, ServesGuard, HasSnapshot, Serves, AreReserved}
+use Rattle.run_session.specs.Keeping.{HasSnapshot, Serves, AreReserved}
 use Rattle.run_session.specs.Outcomes.{ShownNow}
-use Rattle.run_session.specs.Returning.{IsExited, RebuildsSo, ExitsSo, ShowsSo, ChangesArena}
+use Rattle.run_session.specs.Returning.{RebuildsSo, ExitsSo, ShowsSo}
 
 -- ---- rebuilding
 

@@ -1,7 +1,6 @@
 -- Several events of one activation of a session.
-use Rattle.std.proofs.Common.{◌≡◌, ◌≢◌, ◌⊎◌, inl, inr, ℕ, zero, suc, ◌+◌, ◌-◌, ◌*◌, ◌<◌, ◌≤◌, ◌^◌, List, length, Option, Some, None, refl, ap, sym, ◌∙◌, subst, arith}
+use Rattle.std.proofs.Common.{◌≡◌, ◌≢◌, inl, inr, ℕ, zero, suc, ◌+◌, ◌-◌, ◌<◌, ◌≤◌, ◌^◌, length, Option, Some, None, refl, ap, sym, ◌∙◌, subst, arith}
 use Rattle.std.specs.Prelude.{slice_get, slice_set, slice_index_or}
-use Rattle.guard_exit.specs.declared.row.ExitRow.{ExitRow}
 use Rattle.opt_meaning.specs.Pieces.{all_pieces}
 use Rattle.image_runs.specs.Printed.{Printed, code_at, rows_at}
 use Rattle.image_runs.specs.Session.{Host, End, Activation, Session, Event, SessionRun, Step}
@@ -11,7 +10,7 @@ use Rattle.run_session.specs.declared.now.Now.{Now}
 use Rattle.run_session.specs.declared.now.Now.TheVariants as now
 use Rattle.run_session.specs.Calls.{Events, Done, Then, StepsOnce, OthersStay, GivenStays, IsNow, MakesInstruction, MakesAtMost, MayMake, HasEnded, RunsUpTo}
 use Rattle.run_session.specs.Sessions.{Active, Sessioned, Tells, StandsAs, IsSession, host_in}
-use Rattle.run_session.specs.Turning.{MakesOne, KeepsGiven}
+use Rattle.run_session.specs.Turning.{KeepsGiven}
 use Rattle.lists.proofs.Zips.{zip_first}
 use Rattle.run_session.proofs.Lists.{get_some}
 

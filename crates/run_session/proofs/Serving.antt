@@ -96,7 +96,7 @@ finish_last ops value ends h =
 
 -- ---- a placed piece
 
-here_of : (pls : List Placed) (heres : List PieceHere) (pl : Placed) → AreHere pls heres → Has pls pl → (here : PieceHere) × Has heres here × IsHere pl here
+pub here_of : (pls : List Placed) (heres : List PieceHere) (pl : Placed) → AreHere pls heres → Has pls pl → (here : PieceHere) × Has heres here × IsHere pl here
 here_of [] heres pl are h = absurd h
 here_of (x ∷ pls) [] pl are h = absurd are
 here_of (x ∷ pls) (here ∷ heres) pl are (inl e) = (here, inl refl, subst (λ (y : Placed). IsHere y here) e are.0)

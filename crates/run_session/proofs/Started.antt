@@ -1,29 +1,32 @@
 -- A start of a session.
-use Rattle.std.proofs.Common.{◌≡◌, ℕ, zero, suc, ◌+◌, ◌-◌, ◌*◌, ◌<◌, ◌≤◌, List, [], ◌∷◌, ◌++◌, length, map, drop, Option, Some, None, refl, ap, sym, ◌∙◌, subst, arith}
+use Rattle.std.proofs.Common.{◌≡◌, ℕ, zero, suc, ◌+◌, ◌-◌, ◌<◌, ◌≤◌, List, [], ◌∷◌, ◌++◌, length, map, drop, Option, Some, None, refl, ap, sym, ◌∙◌, subst, arith}
 use Rattle.std.specs.Prelude.{slice_get}
-use Rattle.std.specs.List.{All, AllZip}
+use Rattle.std.specs.List.{AllZip}
 use Rattle.std.proofs.lemmas.List.{length-map}
 use Rattle.lists.proofs.Zips.{zip_push}
+use Rattle.std.specs.Option.{IsSomeAnd}
+use Rattle.trace_ops.specs.declared.table.Table.{Table}
+use Rattle.trace_ops.specs.declared.trace.Origin.TheVariants as origin
+use Rattle.trace_ops.specs.declared.trace.Trace.{Trace}
 use Rattle.trace_ops.specs.declared.trace.TraceSet.{TraceSet}
 use Rattle.trace_meaning.specs.declared.value.Value.{Value}
 use Rattle.trace_meaning.specs.declared.call.Answer.{Answer}
-use Rattle.trace_meaning.specs.Starting.{Starts}
-use Rattle.arena_objects.specs.Starting.{first_words}
-use Rattle.opt_meaning.specs.Pieces.{all_pieces, preamble}
+use Rattle.trace_meaning.specs.Starting.{Starts, StartsLoop}
+use Rattle.opt_meaning.specs.Pieces.{preamble}
 use Rattle.bridge_patch.specs.Image.{Imaged, entry_in}
 use Rattle.opt_set.specs.Optimised.{Optimised}
 use Rattle.image_runs.specs.Printed.{Printed, bridges_at}
-use Rattle.image_runs.specs.Session.{Activation, Session, first}
+use Rattle.image_runs.specs.Session.{first}
 use Rattle.session_host.specs.Hosting.{IsStarted}
 use Rattle.run_session.specs.declared.active.Active.{Active as Kept}
 use Rattle.run_session.specs.Beginning.{Begins}
-use Rattle.run_session.specs.Calls.{IsStart, IsFresh, StartsWith, EarlierStay}
-use Rattle.run_session.specs.Sessions.{Active, Sessioned, Tells, IsPrinted, IsSession, host_in}
+use Rattle.run_session.specs.Calls.{IsStart, IsFresh, StartsWith}
+use Rattle.run_session.specs.Sessions.{Tells, IsPrinted}
 use Rattle.run_session.specs.Viewed.{seen_of, taken_by}
 use Rattle.run_session.proofs.Begun.{first_taken_is}
 use Rattle.run_session.proofs.Stepping.{seen_session}
 
-map-push : {X Y : Type 0} (f : X → Y) (xs : List X) (x : X) → map f (xs ++ x ∷ []) ≡ map f xs ++ f x ∷ []
+pub map-push : {X Y : Type 0} (f : X → Y) (xs : List X) (x : X) → map f (xs ++ x ∷ []) ≡ map f xs ++ f x ∷ []
 map-push f [] x = refl
 map-push f (y ∷ xs) x = ap (λ l. f y ∷ l) (map-push f xs x)
 
@@ -36,14 +39,14 @@ get-before [] ys j lt = absurd (omega (arith, lt))
 get-before (x ∷ xs) ys zero lt = refl
 get-before (x ∷ xs) ys (suc j) lt = get-before xs ys j (omega (arith, lt))
 
-get-last : {X : Type 0} (xs : List X) (x : X) (n : ℕ) → n ≡ length xs → slice_get (xs ++ x ∷ []) n ≡ Some x
+pub get-last : {X : Type 0} (xs : List X) (x : X) (n : ℕ) → n ≡ length xs → slice_get (xs ++ x ∷ []) n ≡ Some x
 get-last [] x zero e = refl
 get-last [] x (suc n) e = absurd (omega (arith, e))
 get-last (y ∷ xs) x zero e = absurd (omega (arith, e))
 get-last (y ∷ xs) x (suc n) e = get-last xs x n (omega (arith, e))
 
 -- an activation at its start is the first of a run
-tells_first : (set : TraceSet) (image : Imaged) (bytes trace : ℕ) (inputs : List Value) (answers : List Answer) (k : Kept) (im : Printed) (j : ℕ) → IsPrinted image im → j ≡ length im.parts → Begins set image bytes trace inputs answers k
+tells_first : (set : TraceSet) (image : Imaged) (bytes trace : ℕ) (inputs : List Value) (answers : List Answer) (k : Kept) (im : Printed) (j : ℕ) → IsPrinted set image im → j ≡ length im.parts → Begins set image bytes trace inputs answers k
     → Tells set.table (seen_of k) (first im j trace inputs answers k.machine)
 tells_first set image bytes trace inputs answers k im j printed parts b = record {
   trace = sym b.trace_is;
@@ -62,6 +65,11 @@ tells_first set image bytes trace inputs answers k im j printed parts b = record
 
 none_taken : (n first : ℕ) → n ≡ first → n - first ≡ 0
 none_taken n first e = omega (arith, e)
+
+-- what starts is a loop
+loop_at : (t : Table) (inputs : List Value) (o : Option Trace) → IsSomeAnd o (StartsLoop t inputs) → IsSomeAnd o (λ (x : Trace). x.origin ≡ origin.Loop)
+loop_at t inputs None s = s
+loop_at t inputs (Some x) s = s.0
 
 -- and it is so as it is seen
 fresh_first : (set : TraceSet) (image : Imaged) (bytes trace : ℕ) (inputs : List Value) (answers : List Answer) (k : Kept) → Begins set image bytes trace inputs answers k → IsFresh trace inputs answers image.attached (seen_of k)
@@ -105,7 +113,7 @@ start_is set o image bytes acts k trace i inputs answers fit number few answers_
     begins im s h entry there =
         let x = first im s.parts trace inputs answers k.machine in
         let t = record s { activations = s.activations ++ x ∷ [] } in
-        let started = subst (λ n. IsStarted set bytes trace n inputs k.machine) (sym (h.printed.entries trace entry there)) b.started in
+        let started = subst (λ n. IsStarted set bytes trace n inputs k.machine) (sym (h.printed.entries trace entry there (loop_at set.table inputs (slice_get set.traces trace) fit))) b.started in
         let both = zip_push (Tells set.table) (map seen_of acts) s.activations (seen_of k) x h.each (tells_first set image bytes trace inputs answers k im s.parts h.printed h.parts b) in (
           k.machine,
           started,

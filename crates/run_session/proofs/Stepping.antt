@@ -1,7 +1,7 @@
 -- One activation of a session makes an event.
-use Rattle.std.proofs.Common.{◌≡◌, ◌≢◌, ℕ, zero, suc, ◌+◌, ◌<◌, ◌≤◌, ◌^◌, List, [], ◌∷◌, ◌++◌, length, map, Option, Some, None, refl, ap, sym, ◌∙◌, subst, arith}
+use Rattle.std.proofs.Common.{◌≡◌, ◌≢◌, ℕ, zero, suc, ◌+◌, ◌<◌, ◌≤◌, ◌^◌, List, [], ◌∷◌, length, map, Some, refl, ap, sym, ◌∙◌, subst}
 use Rattle.std.specs.Prelude.{slice_get, slice_set, slice_index_or}
-use Rattle.std.specs.List.{All, AllZip}
+use Rattle.std.specs.List.{All}
 use Rattle.std.proofs.lemmas.List.{length-map}
 use Rattle.std.proofs.lemmas.List.Elements.{All-cons, All-head, All-tail}
 use Rattle.trace_ops.specs.declared.trace.TraceSet.{TraceSet}
@@ -12,14 +12,14 @@ use Rattle.run_session.specs.declared.now.Now.TheVariants as now
 use Rattle.lists.proofs.Zips.{zip_first, zip_set}
 use Rattle.guard_exit.specs.declared.row.ExitRow.{ExitRow}
 use Rattle.opt_meaning.specs.Pieces.{all_pieces}
-use Rattle.image_runs.specs.Printed.{Printed, code_at, rows_at}
-use Rattle.image_runs.specs.Session.{Activation, Session, Event}
+use Rattle.image_runs.specs.Printed.{code_at, rows_at}
+use Rattle.image_runs.specs.Session.{Event}
 use Rattle.run_session.specs.declared.active.Active.{Active as Kept}
 use Rattle.run_session.specs.Calls.{StepsOnce, OthersStay, GivenStays, EndedStays, IsNow, MakesInstruction, MayMake}
-use Rattle.run_session.specs.Sessions.{Active, Sessioned, Tells, IsSession, host_in}
+use Rattle.run_session.specs.Sessions.{Active, Sessioned, Tells, host_in}
 use Rattle.run_session.specs.Turning.{MakesEvent, MakesOne, KeepsGiven}
 use Rattle.run_session.specs.Viewed.{seen_of}
-use Rattle.run_session.proofs.Lists.{map-set, get_some, get-map, get-set, get-others, length-set, set-same}
+use Rattle.run_session.proofs.Lists.{map-set, get-map, get-set, get-others, length-set, set-same}
 
 -- with another activation in the place of one
 abbrev pub with_one : ℕ → Active → Sessioned → Sessioned

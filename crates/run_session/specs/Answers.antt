@@ -1,9 +1,8 @@
 -- What a call passes and what it is answered, by the addresses that were found.
-use Rattle.std.specs.Prelude.{◌≡◌, ℕ, ◌+◌, ◌-◌, ◌^◌, Bool, true, false, nat_le, min, ℤ, pos, List, [], ◌∷◌, ◌++◌, Option, Some, None, length, map, slice_get}
+use Rattle.std.specs.Prelude.{◌≡◌, ℕ, ◌-◌, ◌^◌, Bool, true, false, nat_le, min, ℤ, List, [], ◌∷◌, ◌++◌, Option, Some, None, slice_get}
 use Rattle.std.specs.Option.{option_map, option_to_list}
 use Rattle.std.specs.List.{flat_map}
 use Rattle.trace_ops.specs.declared.table.Table.{Table}
-use Rattle.trace_ops.specs.declared.table.CallRow.{CallRow}
 use Rattle.trace_ops.specs.declared.trace.Kind.{Kind}
 use Rattle.trace_ops.specs.declared.trace.Kind.TheVariants as kind
 use Rattle.target_base.specs.Arena.{Arena}
@@ -17,9 +16,7 @@ use Rattle.arena_objects.specs.Making.{bytes_left}
 use Rattle.arena_objects.specs.ReadBack.{reference_to}
 use Rattle.arena_objects.specs.Walk.{object_at}
 use Rattle.arena_objects.specs.Walked.{number_in}
-use Rattle.arena_objects.specs.declared.making.Full.{Full as TooFew}
 use Rattle.arena_world.specs.View.{value_by}
-use Rattle.arena_world.specs.Fitting.{fits_words}
 use Rattle.arena_world.specs.Answering.{fresh_bytes, answered_arena, answered_word}
 use Rattle.x64_machine.specs.State.{State, reg}
 use Rattle.image_runs.specs.Session.{Calls}

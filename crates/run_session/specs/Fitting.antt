@@ -1,5 +1,5 @@
 -- Which inputs fit the boxes of a loop.
-use Rattle.std.specs.Prelude.{ℕ, Bool, true, false, ◌&&◌, nat_lt, List, [], ◌∷◌, length}
+use Rattle.std.specs.Prelude.{Bool, true, false, ◌&&◌, nat_lt, List, [], ◌∷◌, length}
 use Rattle.trace_ops.specs.declared.trace.BoxId.{BoxId}
 use Rattle.trace_ops.specs.declared.trace.Kind.{Kind}
 use Rattle.trace_ops.specs.declared.trace.Kind.TheVariants as kind

@@ -1,5 +1,5 @@
 -- What a session keeps of its image and of each activation.
-use Rattle.std.specs.Prelude.{◌≡◌, ℕ, ◌*◌, ◌%◌, ◌^◌, ◌≤◌, List, Option, Some, None, length}
+use Rattle.std.specs.Prelude.{◌≡◌, ℕ, ◌*◌, ◌%◌, ◌^◌, ◌≤◌, List, [], Option, Some, None, length}
 use Rattle.std.specs.List.{All, Contains}
 use Rattle.std.specs.Vec.{vec_capacity}
 use Rattle.std.specs.Global.{Vec}
@@ -67,7 +67,7 @@ pub record IsServed (t : Table) (ps : List Piece) (image : Imaged) : Type 0 wher
 abbrev pub AreReserved : List PieceHere → Holding → Type 0
 AreReserved heres r = (here : PieceHere) → Contains heres here → IsReserved here.table r
 
--- while it goes on there is room for its calls and for what a guard rebuilds; the bytes at first are those of the prebuilt objects
+-- while it goes on there is room for its calls and for what a guard rebuilds, and nothing was rebuilt; the bytes at first are those of the prebuilt objects
 pub record IsKept (t : Table) (heres : List PieceHere) (a : Kept) : Type 0 where
   pub table : a.rebuilt.table ≡ t
   pub room : a.stands ≡ now.Going → AreReserved heres a.rebuilt
@@ -76,6 +76,7 @@ pub record IsKept (t : Table) (heres : List PieceHere) (a : Kept) : Type 0 where
   pub failures : a.failures ≤ a.machine.instructions
   pub first : a.first_taken ≡ 8 * length (first_words t)
   pub last : a.stands ≡ now.Going → a.last_taken ≡ None
+  pub frames : a.stands ≡ now.Going → a.rebuilt.frames ≡ []
 
 -- ---- a session
 

@@ -12,3 +12,5 @@ pub mod Returning
 pub mod Turning
 pub mod Fitting
 pub mod Beginning
+pub mod Attaching
+pub mod Widening

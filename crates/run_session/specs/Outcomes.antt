@@ -1,5 +1,5 @@
 -- How the answers of the host and the returns of a machine come out, as the code tells them.
-use Rattle.std.specs.Prelude.{◌≡◌, ℕ, List, Option, Some, None, drop}
+use Rattle.std.specs.Prelude.{◌≡◌, ℕ, List, drop}
 use Rattle.trace_ops.specs.declared.table.Table.{Table}
 use Rattle.trace_meaning.specs.declared.call.Answer.{Answer}
 use Rattle.trace_meaning.specs.declared.call.CallEvent.{CallEvent}

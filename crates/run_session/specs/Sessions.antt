@@ -1,6 +1,9 @@
 -- What contracts see of a session, and how it stands beside a run of image_runs' events over a printed image.
-use Rattle.std.specs.Prelude.{◌≡◌, ℕ, ◌-◌, ◌*◌, List, [], Option, Some, None, length, drop}
+use Rattle.std.specs.Prelude.{◌≡◌, ℕ, ◌-◌, ◌*◌, List, [], Option, Some, None, length, drop, slice_get}
 use Rattle.std.specs.List.{Contains, AllZip}
+use Rattle.std.specs.Option.{IsSomeAnd}
+use Rattle.trace_ops.specs.declared.trace.Origin.TheVariants as origin
+use Rattle.trace_ops.specs.declared.trace.Trace.{Trace}
 use Rattle.trace_ops.specs.declared.trace.TraceSet.{TraceSet}
 use Rattle.trace_ops.specs.declared.table.Table.{Table}
 use Rattle.trace_meaning.specs.declared.value.Value.{Value}
@@ -93,15 +96,19 @@ pub record Tells (t : Table) (a : Active) (x : Activation) : Type 0 where
 
 -- ---- the printed image and the run
 
+-- the trace is a loop
+abbrev pub IsLoopAt : TraceSet → ℕ → Type 0
+IsLoopAt set trace = IsSomeAnd (slice_get set.traces trace) (λ (t : Trace). t.origin ≡ origin.Loop)
+
 -- the image is a printed one, all of whose parts are attached
-pub record IsPrinted (image : Imaged) (im : Printed) : Type 0 where
+pub record IsPrinted (set : TraceSet) (image : Imaged) (im : Printed) : Type 0 where
   pub code : code_at im (length im.parts) ≡ image.bytes
   pub rows : rows_at im (length im.parts) ≡ image.exits
   pub bridges : bridges_at im (length im.parts) ≡ image.attached
-  pub entries : (trace entry : ℕ) → Contains im.entries (trace, entry) → entry ≡ entry_in image.pieces (preamble trace)
+  pub entries : (trace entry : ℕ) → Contains im.entries (trace, entry) → IsLoopAt set trace → entry ≡ entry_in image.pieces (preamble trace)
 
 -- the session is that of a run over the printed image
 pub record IsSession (s : Sessioned) (im : Printed) (x : Session) : Type 0 where
-  pub printed : IsPrinted s.image im
+  pub printed : IsPrinted s.set s.image im
   pub parts : x.parts ≡ length im.parts
   pub each : AllZip (Tells s.set.table) s.activations x.activations

@@ -1,6 +1,6 @@
 // Whether the next instruction takes the jump of a guard's row.
 
-ghost use Rattle.std.specs.Prelude.{◌≡◌, ◌↔◌, ◌+◌, ◌≤◌, ◌^◌, ℕ, IsTrue, List, Option, Some, OnOk, IfOk, IfSome, IfNone, ◌++◌};
+ghost use Rattle.std.specs.Prelude.{◌≡◌, ◌↔◌, ◌+◌, ◌≤◌, ◌<◌, ◌^◌, ℕ, [], length, vec_len, vec_capacity, IsTrue, List, Option, Some, OnOk, IfOk, IfSome, IfNone, ◌++◌};
 ghost use Rattle.std.specs.List.{Contains};
 ghost use Rattle.std.specs.List.Sorted.{IsNonDecreasing};
 ghost use Rattle.x64_encode.specs.declared.instr.Instr.{Instr as OneInstr};
@@ -49,6 +49,40 @@ pub(crate) fn guard_places(alloc: Global, rows: &[ExitRow]) -> Result<Vec<u32>, 
     let mut places = collect_places(alloc, rows)?;
     places.sort()?;
     Ok(places)
+}
+
+// Notes the place of a row, where it is a guard's. There is room for it.
+fn note_place(row: &ExitRow, places: &mut Vec<u32>)
+    requires { vec_len places.old < vec_capacity places.old }
+    ensures items { places.new.items ≡ places.old.items ++ place_in row.now.guard row.now.at }
+    ensures len { vec_len places.new ≤ vec_len places.old + 1 }
+    ensures capacity { vec_capacity places.new ≡ vec_capacity places.old }
+{
+    if row.guard.is_some() {
+        places.push_reserved(row.at);
+    }
+}
+
+// Notes those of all rows.
+fn note_places(rows: &[ExitRow], places: &mut Vec<u32>)
+    requires none { places.old.items ≡ [] }
+    requires room { length rows.now ≤ vec_capacity places.old }
+    ensures { places.new.items ≡ places_of rows.now }
+{
+    for row in rows {
+        note_place(row, places);
+    }
+}
+
+/// The places of the displacements of guards' jumps, in order, in a vector that has room for them. It takes no memory.
+pub(crate) fn guard_places_in(rows: &[ExitRow], mut places: Vec<u32>) -> Vec<u32>
+    requires none { places.items ≡ [] }
+    requires room { length rows.now ≤ vec_capacity places }
+    ensures { AreGuardPlaces rows.now result.items }
+{
+    note_places(rows, &mut places);
+    places.sort_unstable();
+    places
 }
 
 // Whether the place so far ahead is among places in order.

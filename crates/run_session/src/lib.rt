@@ -2,11 +2,13 @@
 #![tactic(auto)]
 
 mod active;
+mod attaching;
 mod calling;
 mod condition;
 mod counting;
 mod event;
 mod exit;
+mod laws;
 mod log;
 mod now;
 mod passing;
@@ -16,5 +18,6 @@ mod returning;
 mod session;
 mod starting;
 
+pub use laws::runs_go_on;
 pub use now::{Now, StartFault};
 pub use session::Session;

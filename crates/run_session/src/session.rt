@@ -1,26 +1,32 @@
 //! A session: a set's image and its activations.
 
-ghost use Rattle.std.specs.Prelude.{◌≡◌, ◌%◌, ◌^◌, ◌<◌, ◌≤◌, [], length, IfOk};
+ghost use Rattle.std.specs.Prelude.{◌≡◌, ◌%◌, ◌^◌, ◌<◌, ◌≤◌, [], length, IfOk, IfErr, OnOk, OnErr};
 ghost use Rattle.arena_objects.specs.ReadBack.{objects_in};
 ghost use Rattle.bridge_patch.specs.Attached.{IsImageOf};
 ghost use Rattle.bridge_patch.specs.Image.{IsImage};
 ghost use Rattle.opt_meaning.specs.Pieces.{all_pieces};
 ghost use Rattle.trace_ops.specs.InRange.{IsInRange};
 ghost use Rattle.arena_world.specs.Prebuilt.{IsHostOf};
+ghost use Rattle.loop_peel.specs.Peeling.{IsBridge};
+ghost use Rattle.opt_set.specs.Attaching.{IsGranted};
+ghost use Rattle.opt_set.specs.Causes.{HasCause};
 ghost use Rattle.set_in_image.specs.Placing.{HasNoStep, IsPlaced};
+ghost use Rattle.run_session.specs.Attaching.{IsAttachment};
 ghost use Rattle.run_session.specs.Keeping.{IsArenaSize, IsServed};
 ghost use Rattle.run_session.specs.Sessions.{placed_in};
 ghost use Rattle.run_session.specs.Calls.{IsNow, Shows, AreCounts, MayMake, StepsOnce, MakesInstruction, MakesAtMost, MakesAll, RunsUpTo, GivenStays, EndedStays, OthersStay, Started, most_made};
 
 use crate::active::Active;
-use crate::counting::guard_places;
+use crate::attaching::{cut_each, room_for_bridge};
+use crate::counting::{guard_places, guard_places_in};
 use crate::event::is_going;
 use crate::now::{Now, StartFault};
 use crate::starting::{Setting, fits_loop};
 use arena_world::{Host, read_store};
 use bridge_patch::Image;
 use opt_meaning::Counts;
-use opt_set::{OptimisedSet, pieces_are_sound};
+use opt_set::{AttachFault, OptimisedSet, pieces_are_sound};
+use resume_numbering::sound_pieces_can_be_numbered;
 use resume_rebuild::rebuilds_what_is_meant;
 use set_in_image::PlacedSet;
 use std::alloc::{AllocError, Global};
@@ -163,6 +169,39 @@ impl Session {
                 Ok(number)
             }
         }
+    }
+
+    /// Attaches a bridge: its pieces are made and put into the image, and each activation sees it from its next failure on. All
+    /// memory is taken first.
+    ///
+    /// # Errors
+    /// `Already` exactly where the bridge is attached; `NoParent` exactly where it isn't, and its guard's trace is a bridge that
+    /// isn't attached; or want of memory. Each leaves the session as it was.
+    pub fn attach(&mut self, bridge: u32) -> Result<(), AttachFault>
+        requires { IsBridge self.old.set bridge }
+        ensures attached { OnOk result (IsAttachment bridge self.old self.new) }
+        ensures granted { OnOk result (IsGranted self.old.set self.old.optimised.attached bridge) }
+        ensures cause { IfErr result (λ e. HasCause self.old.set self.old.optimised.attached bridge e) }
+        ensures kept { OnErr result (self.new ≡ self.old) }
+    {
+        equality_decides();
+        rebuilds_what_is_meant();
+        pieces_are_sound();
+        sound_pieces_can_be_numbered();
+        self.placed.stands();
+        let made = self.placed.pieces_of(self.alloc, bridge)?;
+        let rows = self.placed.image().exits().len();
+        let pieces = made.opt.pieces.items();
+        let Some(places) = room_for_bridge(self.alloc, rows, pieces, &mut self.activations) else {
+            return Err(AttachFault::OutOfMemory);
+        };
+        if self.placed.place(bridge, made).is_err() {
+            return Err(AttachFault::OutOfMemory);
+        }
+        self.placed.stands();
+        self.guard_places = guard_places_in(self.placed.image().exits(), places);
+        cut_each(&mut self.activations, bridge);
+        Ok(())
     }
 
     /// Makes one event of an activation, and answers where it stands then. One that has ended stays. It takes no memory.

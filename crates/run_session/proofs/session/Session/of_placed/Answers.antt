@@ -7,7 +7,6 @@ use Rattle.arena_world.specs.Prebuilt.{IsHostOf}
 use Rattle.bridge_patch.specs.Image.{Imaged}
 use Rattle.run_session.specs.Guards.{AreGuardPlaces}
 use Rattle.run_session.specs.Keeping.{IsKept}
-use Rattle.run_session.proofs.Served.{code_short}
 use Rattle.run_session.proofs.Serving.{placed_serves}
 use Rattle.run_session.proofs.session.Session.of_placed.Goals as goal
 

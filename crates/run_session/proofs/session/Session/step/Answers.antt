@@ -1,4 +1,4 @@
-use Rattle.std.proofs.Common.{◌≡◌, ◌<◌, List, length, map, sym, ap, subst, ◌∙◌, arith}
+use Rattle.std.proofs.Common.{◌<◌, List, length, sym, ap, subst, ◌∙◌, arith}
 use Rattle.std.specs.Prelude.{slice_set}
 use Rattle.std.proofs.lemmas.List.{length-map}
 use Rattle.trace_ops.specs.declared.piece.OptTrace.{OptTrace}
@@ -6,8 +6,7 @@ use Rattle.trace_ops.specs.declared.trace.TraceSet.{TraceSet}
 use Rattle.opt_meaning.specs.Pieces.{all_pieces}
 use Rattle.bridge_patch.specs.Image.{Imaged}
 use Rattle.opt_set.specs.Optimised.{Optimised}
-use Rattle.run_session.specs.Calls.{StepsOnce, OthersStay, MakesInstruction}
-use Rattle.run_session.specs.Keeping.{IsKept, HoldsTogether}
+use Rattle.run_session.specs.Keeping.{IsKept}
 use Rattle.run_session.specs.Sessions.{Active, Sessioned}
 use Rattle.run_session.specs.Turning.{MakesEvent}
 use Rattle.run_session.specs.Viewed.{seen_of}

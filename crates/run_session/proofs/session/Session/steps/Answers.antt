@@ -1,6 +1,6 @@
-use Rattle.std.proofs.Common.{◌≡◌, ◌≢◌, ℕ, ◌+◌, ◌<◌, ◌≤◌, ◌-◌, true, false, List, length, ap, sym, subst, ◌∙◌, arith, ◌^◌}
+use Rattle.std.proofs.Common.{◌≡◌, ◌+◌, ◌<◌, ◌≤◌, ◌-◌, true, false, length, ap, sym, subst, ◌∙◌, arith, ◌^◌}
 use Rattle.run_session.specs.Sessions.{Sessioned}
-use Rattle.run_session.proofs.Running.{Ran, MadeAll, ran_none, ran_more, made_none, made_more, runs_ended, runs_on, made_within}
+use Rattle.run_session.proofs.Running.{MadeAll, ran_none, ran_more, made_none, made_more, runs_ended, runs_on, made_within}
 use Rattle.run_session.proofs.Stepping.{now_kept}
 use Rattle.run_session.proofs.session.Session.steps.Goals as goal
 

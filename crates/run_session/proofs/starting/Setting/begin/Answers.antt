@@ -31,5 +31,6 @@ returns c =
         failures = omega arith;
         first = c.taken-first_taken.ensures.value ∙ ap (λ a. a.taken) c.arena.ensures ∙ first_taken_is self.set.now self.arena_bytes c.args.trace entry c.args.inputs.items m started;
         last = λ g. refl;
+        frames = λ g. c.in_ok-room_for.ensures.frames;
       };
     }

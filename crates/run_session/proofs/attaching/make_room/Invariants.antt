@@ -1,0 +1,10 @@
+use Rattle.std.proofs.Common.{◌≡◌, vec_capacity}
+use Rattle.run_session.specs.Widening.{IsRoomy}
+use Rattle.run_session.proofs.Changes.{Changed}
+use Rattle.run_session.proofs.attaching.make_room.Given as goal
+
+abbrev pub invariant-loop-k : goal.invariant-loop-k
+invariant-loop-k l = record {
+  changed : Changed (IsRoomy l.tables) l.k l.fn.activations.items l.activations.items;
+  capacity : vec_capacity l.activations ≡ vec_capacity l.fn.activations;
+}

@@ -30,3 +30,16 @@ pub fn plain(alloc: Global, boxes: &[BoxId]) -> Result<Entry, AllocError>
         facts: List::of(Vec::new(alloc)),
     })
 }
+
+/// The entry that knows nothing and has no boxes.
+pub fn unknown(alloc: Global) -> Entry
+    ensures { result ≡ plain_entry [] }
+{
+    Entry {
+        label: List::of(Vec::new(alloc)),
+        values: List::of(Vec::new(alloc)),
+        shapes: List::of(Vec::new(alloc)),
+        pending: List::of(Vec::new(alloc)),
+        facts: List::of(Vec::new(alloc)),
+    }
+}

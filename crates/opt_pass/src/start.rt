@@ -1,16 +1,17 @@
 //! Where the pass begins.
-ghost use Rattle.std.specs.Prelude.{◌≡◌, ℕ, ◌+◌, ◌<◌, ◌^◌, [], IfOk, OnOk, length, map};
+ghost use Rattle.std.specs.Prelude.{◌≡◌, ℕ, ◌+◌, ◌<◌, ◌^◌, [], IfOk, OnOk, false, length, map};
+ghost use Rattle.heap_cache.specs.Content.{empty};
 ghost use Rattle.opt_meaning.specs.Admits.{plain_entry};
 ghost use Rattle.opt_pass.specs.Starting.{numbered_from, with_names, renaming, renamed_arg, entering, made_box, entered, entered_val, entry_ops, first_names, started};
 
-use crate::entries::plain;
+use crate::entries::unknown;
 use crate::names::Names;
 use crate::state::Pass;
 use crate::stores::entry_operations;
 use box_forward::Pure;
 use heap_cache::Cache;
 use std::alloc::{AllocError, Global};
-use trace_ops::{Arg, BoxId, Entry, Kind, List, PieceId, Table, Val};
+use trace_ops::{Arg, BoxId, Entry, Kind, List, OptOp, PieceId, Table, Val};
 use virtuals::Virtuals;
 
 /// The label's boxes by their numbers in the piece, how many they are, and how many virtual objects are made behind them.
@@ -120,6 +121,105 @@ fn named_by(
     Ok(out)
 }
 
+// What a pass begins with whatever the entry: it knows nothing.
+#[derive(Drop)]
+struct Blank {
+    target: List<BoxId>,
+    known: Pure,
+    passed: Pure,
+    cache: Cache,
+    virtuals: Virtuals,
+}
+
+fn no_operations(alloc: Global) -> Result<(Pure, Pure), AllocError>
+    ensures { IfOk result (λ r. (r.0 ≡ []) × (r.1 ≡ [])) }
+{
+    let known = Pure::new(alloc)?;
+    let passed = Pure::new(alloc)?;
+    Ok((known, passed))
+}
+
+fn no_heap(alloc: Global) -> Result<(Cache, Virtuals), AllocError>
+    ensures { IfOk result (λ r. (r.0 ≡ empty) × (r.1 ≡ [])) }
+{
+    let cache = Cache::new(alloc)?;
+    let virtuals = Virtuals::new(alloc)?;
+    Ok((cache, virtuals))
+}
+
+fn nothing_known(alloc: Global, target: &[BoxId]) -> Result<Blank, AllocError>
+    ensures { IfOk result (λ r. r ≡ record { target = target.now; known = []; passed = []; cache = empty; virtuals = [] }) }
+{
+    let target = List::of(Vec::from_slice(alloc, target)?);
+    let (known, passed) = no_operations(alloc)?;
+    let (cache, virtuals) = no_heap(alloc)?;
+    Ok(Blank {
+        target,
+        known,
+        passed,
+        cache,
+        virtuals,
+    })
+}
+
+// What the boxes of the trace are, and what makes the entry's objects and does its stores.
+#[derive(Drop)]
+struct Beginning {
+    names: Names,
+    ops: List<OptOp>,
+    next: u32,
+}
+
+fn begin(
+    alloc: Global,
+    table: &Table,
+    inputs: &[BoxId],
+    entry: &Entry,
+) -> Result<Beginning, AllocError>
+    requires { length entry.now.label + length entry.now.shapes < 2 ^ 32 }
+    ensures { IfOk result (λ r. r ≡ record { names = first_names inputs.now entry.now; ops = entry_ops table.now entry.now; next = length entry.now.label + length entry.now.shapes }) }
+{
+    let entering = entering_of(alloc, entry)?;
+    let names = named_by(alloc, &entering, inputs, entry.values.items())?;
+    let ops = entry_operations(alloc, table, &entering, entry)?;
+    Ok(Beginning {
+        names,
+        ops,
+        next: entering.label + entering.shapes,
+    })
+}
+
+// A pass that has begun so.
+fn begun(alloc: Global, to: PieceId, blank: Blank, beginning: Beginning) -> Pass
+    ensures { result ≡ record { to = to; target = blank.target; names = beginning.names; forward = []; cache = blank.cache; virtuals = blank.virtuals; known = blank.known; passed = blank.passed; next = beginning.next; ops = beginning.ops; guards = []; guard = 0; checked = false; ended = false; at_end = plain_entry [] } }
+{
+    let Blank {
+        target,
+        known,
+        passed,
+        cache,
+        virtuals,
+    } = blank;
+    let Beginning { names, ops, next } = beginning;
+    Pass {
+        to,
+        target,
+        names,
+        forward: Names::new(alloc),
+        cache,
+        virtuals,
+        known,
+        passed,
+        next,
+        ops,
+        guards: List::of(Vec::new(alloc)),
+        guard: 0,
+        checked: false,
+        ended: false,
+        at_end: unknown(alloc),
+    }
+}
+
 /// The state where a piece begins: the virtual objects of the entry are made and its stores are done.
 pub fn start(
     alloc: Global,
@@ -132,30 +232,7 @@ pub fn start(
     requires { length entry.now.label + length entry.now.shapes < 2 ^ 32 }
     ensures { IfOk result (λ r. r ≡ started table.now inputs.now to target.now entry.now) }
 {
-    let entering = entering_of(alloc, entry)?;
-    let names = named_by(alloc, &entering, inputs, entry.values.items())?;
-    let ops = entry_operations(alloc, table, &entering, entry)?;
-    let known = Pure::new(alloc)?;
-    let passed = Pure::new(alloc)?;
-    let cache = Cache::new(alloc)?;
-    let virtuals = Virtuals::new(alloc)?;
-    let at_end = plain(alloc, &[])?;
-    let target = List::of(Vec::from_slice(alloc, target)?);
-    Ok(Pass {
-        to,
-        target,
-        names,
-        forward: Names::new(alloc),
-        cache,
-        virtuals,
-        known,
-        passed,
-        next: entering.label + entering.shapes,
-        ops,
-        guards: List::of(Vec::new(alloc)),
-        guard: 0,
-        checked: false,
-        ended: false,
-        at_end,
-    })
+    let blank = nothing_known(alloc, target)?;
+    let beginning = begin(alloc, table, inputs, entry)?;
+    Ok(begun(alloc, to, blank, beginning))
 }

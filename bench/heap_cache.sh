@@ -1,5 +1,7 @@
 #!/bin/sh
-# How many reads a second a cache with 10,000 known spots answers, on one core, in a built program.
+# How many reads a second a cache with 10,000 known spots answers; and how long 1,000 and 8,000 late stores take beside as
+# many known spots: to as many items of one array, each flushed or read before it, through as many bases to one field, and
+# to one of 16 fields of objects of which an item is known too. Times are of the processor, on one core, in a built program.
 # A copy of the two crates and a small program over them are made in a temporary folder, built by rt and run there.
 # Needs rt. Usage: bench/heap_cache.sh [READS]
 set -eu
@@ -18,28 +20,32 @@ heap_cache: trace_ops indexmap
 read_speed: trace_ops heap_cache anyhow
 EOF
 cat > "$work/crates/read_speed/src/main.rt" <<'EOF'
-//! Notes 10,000 spots, reads them over and over, and prints how long that took.
+//! Reads spots and holds stores back, over and over, and prints how long that took.
 #![tactic(auto)]
 
 use anyhow::Result;
 use heap_cache::Cache;
 use std::alloc::{AllocError, Global};
-use std::time::Instant;
+use std::time::CpuClock;
 use trace_ops::{Arg, BoxId, Kind, Spot, Val};
 
-fn base(n: u32) -> Arg {
+// The box of an object.
+fn object(number: u32) -> Arg {
     Arg::Of(BoxId {
         kind: Kind::Ref,
-        number: n / 10,
+        number,
     })
+}
+
+// A known word.
+fn word(w: u32) -> Val {
+    Val::Known(Arg::Const(w as i64))
 }
 
 fn filled(alloc: Global) -> Result<Cache, AllocError> {
     let mut cache = Cache::new(alloc)?;
     for n in 0..10_000u32 {
-        if cache.pending().is_empty() {
-            cache.note(base(n), Spot::Field(n % 10), Val::Known(Arg::Const(n as i64)))?;
-        }
+        cache.note(object(n / 10), Spot::Field(n % 10), word(n))?;
     }
     Ok(cache)
 }
@@ -48,19 +54,122 @@ fn read_all(cache: &Cache, reads: u32) -> i64 {
     let mut seen = 0;
     for k in 0..reads {
         let n = k % 10_000;
-        if let Some(Val::Known(Arg::Const(w))) = cache.read(base(n), Spot::Field(n % 10)) {
+        if let Some(Val::Known(Arg::Const(w))) = cache.read(object(n / 10), Spot::Field(n % 10)) {
             seen |= w;
         }
     }
     seen
 }
 
-fn main(rt: HostRuntime) -> Result<()> {
+// A cache that knows a field of each of as many objects.
+fn knowing(alloc: Global, count: u32) -> Result<Cache, AllocError> {
+    let mut cache = Cache::new(alloc)?;
+    for n in 0..count {
+        cache.note(object(n), Spot::Field(1), word(n))?;
+    }
+    Ok(cache)
+}
+
+// Late stores to as many items of one array.
+fn items(cache: &mut Cache, count: u32) -> Result<usize, AllocError> {
+    let mut seen = 0;
+    for n in 0..count {
+        seen |= cache.write_late(object(0), Spot::Item(0, n as i64), word(n))?.len();
+    }
+    Ok(seen)
+}
+
+// The same, each item flushed before, and read after.
+fn items_flushed(cache: &mut Cache, count: u32) -> Result<usize, AllocError> {
+    let mut seen = 0;
+    for n in 0..count {
+        let spot = Spot::Item(0, n as i64);
+        seen |= cache.flush([spot].as_slice())?.len();
+        seen |= cache.write_late(object(0), spot, word(n))?.len();
+        if cache.read(object(0), spot).is_none() {
+            seen |= 2;
+        }
+    }
+    Ok(seen)
+}
+
+// Late stores through as many bases to one field.
+fn bases(cache: &mut Cache, count: u32) -> Result<usize, AllocError> {
+    let mut seen = 0;
+    for n in 0..count {
+        seen |= cache.write_late(object(n), Spot::Field(0), word(n))?.len();
+    }
+    Ok(seen)
+}
+
+// Of each object an item that is only read, and one of 16 fields that is read and written.
+fn fields(cache: &mut Cache, count: u32) -> Result<usize, AllocError> {
+    let mut seen = 0;
+    for n in 0..count {
+        let field = Spot::Field(2 + n % 16);
+        cache.note(object(n), Spot::Item(0, 1), word(n))?;
+        seen |= cache.flush([field].as_slice())?.len();
+        if cache.read(object(n), field).is_none() {
+            cache.note(object(n), field, word(n))?;
+        }
+        seen |= cache.write_late(object(n), field, word(n))?.len();
+    }
+    Ok(seen)
+}
+
+fn time_items(rt: &HostRuntime, count: u32) -> Result<()> {
+    let mut cache = knowing(rt.alloc(), count)?;
+    let start = rt.process_cpu_time()?;
+    let seen = items(&mut cache, count)?;
+    let took = rt.process_cpu_time()?.saturating_sub(start);
+    println!(rt; "{count} items of one array: {took:?}, seen {seen}")?;
+    Ok(())
+}
+
+fn time_flushed(rt: &HostRuntime, count: u32) -> Result<()> {
+    let mut cache = knowing(rt.alloc(), count)?;
+    let start = rt.process_cpu_time()?;
+    let seen = items_flushed(&mut cache, count)?;
+    let took = rt.process_cpu_time()?.saturating_sub(start);
+    println!(rt; "{count} items of one array, each flushed and read: {took:?}, seen {seen}")?;
+    Ok(())
+}
+
+fn time_bases(rt: &HostRuntime, count: u32) -> Result<()> {
+    let mut cache = knowing(rt.alloc(), count)?;
+    let start = rt.process_cpu_time()?;
+    let seen = bases(&mut cache, count)?;
+    let took = rt.process_cpu_time()?.saturating_sub(start);
+    println!(rt; "{count} bases to one field: {took:?}, seen {seen}")?;
+    Ok(())
+}
+
+fn time_fields(rt: &HostRuntime, count: u32) -> Result<()> {
+    let mut cache = knowing(rt.alloc(), count)?;
+    let start = rt.process_cpu_time()?;
+    let seen = fields(&mut cache, count)?;
+    let took = rt.process_cpu_time()?.saturating_sub(start);
+    println!(rt; "{count} objects, 16 fields: {took:?}, seen {seen}")?;
+    Ok(())
+}
+
+fn time_reads(rt: &HostRuntime) -> Result<()> {
     let cache = filled(rt.alloc())?;
-    let start = Instant::now(&rt)?;
+    let start = rt.process_cpu_time()?;
     let seen = read_all(&cache, READS);
-    let took = start.elapsed(&rt)?;
+    let took = rt.process_cpu_time()?.saturating_sub(start);
     println!(rt; "READS reads in {took:?}, seen {seen}")?;
+    Ok(())
+}
+
+fn main(rt: HostRuntime) -> Result<()> {
+    time_reads(&rt)?;
+    for count in [1_000u32, 8_000] {
+        time_items(&rt, count)?;
+        time_flushed(&rt, count)?;
+        time_bases(&rt, count)?;
+        time_fields(&rt, count)?;
+    }
     Ok(())
 }
 EOF

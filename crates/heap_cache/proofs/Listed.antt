@@ -1,10 +1,10 @@
 -- One more item of a list that is copied from the left.
-use Rattle.std.proofs.Common.{◌≡◌, ◌∙◌, ℕ, zero, suc, ◌+◌, List, [], ◌∷◌, ◌++◌, Option, Some, None, drop, refl, ap, sym, subst, arith}
+use Rattle.std.proofs.Common.{◌≡◌, ◌∙◌, ℕ, zero, suc, ◌+◌, ◌<◌, ◌≤◌, length, get_or, List, [], ◌∷◌, ◌++◌, Option, Some, None, drop, refl, ap, sym, subst, arith}
 use Rattle.std.specs.Option.{IsSome}
 use Rattle.std.specs.List.{slice_get}
 use Rattle.std.proofs.lemmas.List.{append_assoc}
 
-drop-at : {A : Type 0} (xs : List A) (i : ℕ) (x : A) → slice_get xs i ≡ Some x → drop i xs ≡ x ∷ drop (i + 1) xs
+pub drop-at : {A : Type 0} (xs : List A) (i : ℕ) (x : A) → slice_get xs i ≡ Some x → drop i xs ≡ x ∷ drop (i + 1) xs
 drop-at [] i x e = absurd (cc)
 drop-at (y ∷ ys) zero x e = let same : y ≡ x = cc in ap (λ z. z ∷ ys) same
 drop-at (y ∷ ys) (suc i) x e =
@@ -18,3 +18,22 @@ drop-copied xs ys whole i x e copied pushed =
 pub none-holds-none : {A : Type 0} (found : Option A) → found ≡ None → IsSome found → ⊥
 none-holds-none None e h = cc
 none-holds-none (Some x) e h = cc
+
+-- an item by its index
+pub get_below : {A : Type 0} (xs : List A) (i : ℕ) (d : A) → i < length xs → slice_get xs i ≡ Some (get_or xs i d)
+get_below [] i d below = absurd (omega (arith, below))
+get_below (y ∷ ys) zero d below = refl
+get_below (y ∷ ys) (suc i) d below = get_below ys i d (shorter below)
+  where
+    shorter : suc i < length (y ∷ ys) → i < length ys
+    shorter b = omega (arith, b)
+
+-- nothing is past the end
+pub drop_end : {A : Type 0} (xs : List A) (i : ℕ) → length xs ≤ i → drop i xs ≡ []
+drop_end [] zero past = refl
+drop_end [] (suc i) past = refl
+drop_end (y ∷ ys) zero past = absurd (omega (arith, past))
+drop_end (y ∷ ys) (suc i) past = drop_end ys i (shorter past)
+  where
+    shorter : length (y ∷ ys) ≤ suc i → length ys ≤ i
+    shorter b = omega (arith, b)

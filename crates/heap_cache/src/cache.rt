@@ -1,11 +1,14 @@
 //! The cache itself: what is known of spots, and the stores that are held back.
 
-ghost use Rattle.std.specs.Prelude.{◌≡◌, filter, IfOk, OnOk, OnErr};
-ghost use Rattle.heap_cache.specs.Content.{empty, value_at, noted, wrote, flushed, flushed_all, flushed_items, forgot, forgot_items, is_among, is_through, is_item_store};
+ghost use Rattle.std.specs.Prelude.{◌≡◌, false, filter, IfOk, OnOk, OnErr};
+ghost use Rattle.heap_cache.specs.Content.{empty, value_at, noted, wrote, flushed, flushed_all, flushed_items, forgot, forgot_items, is_among, is_through, is_item_store, is_at};
+ghost use Rattle.heap_cache.specs.Marks.{IsOnly};
+ghost use Rattle.std.specs.List.{list_any};
 
-use crate::key::{Key, is_elsewhere, is_field, is_item};
-use crate::picks::{among, elsewhere, items, off, off_all, off_items};
-use indexmap::IndexMap;
+use crate::held::{Found, Held};
+use crate::key::Key;
+use crate::known::Known;
+use crate::picks::through;
 use std::alloc::{AllocError, Global};
 use std::marker::Model;
 use trace_ops::{Arg, Pending, Spot, Val};
@@ -14,8 +17,8 @@ use trace_ops::{Arg, Pending, Spot, Val};
 #[derive(Drop)]
 pub struct Cache {
     alloc: Global,
-    known: IndexMap<Key, Val>,
-    pending: Vec<Pending>,
+    known: Known,
+    held: Held,
 }
 
 impl Model for Cache {
@@ -23,7 +26,7 @@ impl Model for Cache {
 
     ghost Value = { Content };
 
-    ghost view = { λ c. record { known = c.known.entries; pending = c.pending.items } };
+    ghost view = { λ c. record { known = c.known; pending = c.held } };
 }
 
 impl Cache {
@@ -33,8 +36,8 @@ impl Cache {
     {
         Ok(Cache {
             alloc,
-            known: IndexMap::new(alloc),
-            pending: Vec::new(alloc),
+            known: Known::new(alloc),
+            held: Held::new(alloc),
         })
     }
 
@@ -43,14 +46,14 @@ impl Cache {
     pub fn read(&self, base: Arg, spot: Spot) -> Option<Val>
         ensures { result ≡ value_at self.now.known base spot }
     {
-        self.known.get(&Key { base, spot }).copied()
+        self.known.read(base, spot)
     }
 
     /// The stores that are still to be done, in order.
     pub fn pending(&self) -> &[Pending]
         ensures { result.now ≡ self.now.pending }
     {
-        self.pending.as_slice()
+        self.held.as_slice()
     }
 
     /// The spot has this value, after a read or a store that was done at once. Whoever calls it sees to it that no pending
@@ -59,8 +62,7 @@ impl Cache {
         ensures ok { OnOk result (self.new ≡ noted base spot value self.old) }
         ensures err { OnErr result (self.new ≡ self.old) }
     {
-        self.known.insert(Key { base, spot }, value)?;
-        Ok(())
+        self.known.note(base, spot, value)
     }
 
     /// A store that is to be done later. What comes out, in order, are the pending stores that may touch the spot
@@ -75,12 +77,40 @@ impl Cache {
         ensures out { IfOk result (λ out. out.items ≡ filter (is_through base spot) self.old.pending) }
         ensures err { OnErr result (self.new ≡ self.old) }
     {
-        let out = elsewhere(self.alloc, &self.pending, base, spot)?;
-        let mut pending = off(self.alloc, &self.pending, spot)?;
-        pending.push(Pending { base, spot, value })?;
-        self.known.insert(Key { base, spot }, value)?;
-        self.known.retain(|k, _| !is_elsewhere(base, spot, *k));
-        self.pending = pending;
+        let store = Pending { base, spot, value };
+        match self.held.find(spot) {
+            None => self.write_first(store),
+            Some(found) => self.write_again(found, store),
+        }
+    }
+
+    // A late store to a spot at which none is pending.
+    fn write_first(&mut self, store: Pending) -> Result<Vec<Pending>, AllocError>
+        requires { list_any (is_at store.spot) self.old.pending ≡ false }
+        ensures ok { OnOk result (self.new ≡ wrote store.base store.spot store.value self.old) }
+        ensures out { IfOk result (λ out. out.items ≡ filter (is_through store.base store.spot) self.old.pending) }
+        ensures err { OnErr result (self.new ≡ self.old) }
+    {
+        self.held.push(store)?;
+        match self.known.write(store.base, store.spot, store.value) {
+            Ok(()) => Ok(Vec::new(self.alloc)),
+            Err(e) => {
+                self.held.pop();
+                Err(e)
+            }
+        }
+    }
+
+    // A late store in place of the one at the index.
+    fn write_again(&mut self, found: Found, store: Pending) -> Result<Vec<Pending>, AllocError>
+        requires { IsOnly store.spot self.old.pending found.at found.store }
+        ensures ok { OnOk result (self.new ≡ wrote store.base store.spot store.value self.old) }
+        ensures out { IfOk result (λ out. out.items ≡ filter (is_through store.base store.spot) self.old.pending) }
+        ensures err { OnErr result (self.new ≡ self.old) }
+    {
+        let out = through(self.alloc, found.store, store.base)?;
+        self.known.write(store.base, store.spot, store.value)?;
+        self.held.replace(found, store);
         Ok(out)
     }
 
@@ -90,9 +120,7 @@ impl Cache {
         ensures out { IfOk result (λ out. out.items ≡ filter (is_among spots.now) self.old.pending) }
         ensures err { OnErr result (self.new ≡ self.old) }
     {
-        let out = among(self.alloc, &self.pending, spots)?;
-        self.pending = off_all(self.alloc, &self.pending, spots)?;
-        Ok(out)
+        self.held.flush(self.alloc, spots)
     }
 
     /// All pending stores come out, in order, to be done now. What is known stays.
@@ -101,9 +129,7 @@ impl Cache {
         ensures out { IfOk result (λ out. out.items ≡ self.old.pending) }
         ensures err { OnErr result (self.new ≡ self.old) }
     {
-        let out = Vec::from_slice(self.alloc, &self.pending)?;
-        self.pending.clear();
-        Ok(out)
+        self.held.flush_all(self.alloc)
     }
 
     /// The pending stores to items of this kind of array come out, in order, to be done now. What is known stays.
@@ -112,35 +138,27 @@ impl Cache {
         ensures out { IfOk result (λ out. out.items ≡ filter (is_item_store array) self.old.pending) }
         ensures err { OnErr result (self.new ≡ self.old) }
     {
-        let out = items(self.alloc, &self.pending, array)?;
-        self.pending = off_items(self.alloc, &self.pending, array)?;
-        Ok(out)
+        self.held.flush_items(self.alloc, array)
     }
 
     /// What is known, in the order in which it became known.
     pub fn known(&self) -> Result<Vec<(Key, Val)>, AllocError>
         ensures { IfOk result (λ known. known.items ≡ self.now.known) }
     {
-        let mut known = Vec::new(self.alloc);
-        for i in 0..self.known.len() {
-            if let Some((k, v)) = self.known.get_index(i) {
-                known.push((*k, *v))?;
-            }
-        }
-        Ok(known)
+        self.known.list(self.alloc)
     }
 
     /// Nothing is known of these fields from now on. Pending stores stay.
     pub fn forget(&mut self, fields: &[u32])
         ensures { self.new ≡ forgot fields.now self.old }
     {
-        self.known.retain(|k, _| !is_field(fields, k.spot));
+        self.known.forget(fields);
     }
 
     /// Nothing is known of the items of this kind of array from now on. Pending stores stay.
     pub fn forget_items(&mut self, array: u32)
         ensures { self.new ≡ forgot_items array self.old }
     {
-        self.known.retain(|k, _| !is_item(array, k.spot));
+        self.known.forget_items(array);
     }
 }

@@ -26,7 +26,7 @@ use Rattle.opt_meaning.specs.Step.{Opt, resume_args}
 use Rattle.opt_pass.specs.declared.state.Pass.{Pass}
 use Rattle.opt_pass.specs.State.{args_of, with_plain, skipped, with_jump, passed_in, with_body, jumped_in, jumped, with_finish, kept_at, exited_at, snap_of, entry_at}
 use Rattle.opt_pass.specs.Standing.{Stands}
-use Rattle.opt_pass.specs.Keeping.{IsThere, sets_overflow, KeepsAll}
+use Rattle.opt_pass.specs.Keeping.{IsThere, sets_overflow, Rests, KeepsAll}
 use Rattle.std.proofs.Common.{Result, Ok, Err, OnOk}
 use Rattle.trace_ops.specs.Classes.{overflowing as overflowing_part}
 use Rattle.opt_pass.specs.Keeping.{IsPerformed, IsTested}
@@ -58,6 +58,7 @@ pub record HasFrame (o new : Pass) : Type 0 where
   pub at_end : new.at_end ≡ o.at_end
   pub to : new.to ≡ o.to
   pub target : new.target ≡ o.target
+  pub rests : Rests o new
 
 pub framed : (o new mid : Pass) → new ≡ mid → HasFrame o mid → HasFrame o new
 framed o new mid e h = subst (HasFrame o) (sym e) h
@@ -77,6 +78,10 @@ plain_fields : (o : Pass) (operation : OpCode) (to : Option BoxId) (args : List 
     ((with_plain o operation to args d).ops ≡ o.ops ++ opt.Plain operation (given_by o to) args d ∷ []) × ((with_plain o operation to args d).guards ≡ o.guards) × ((with_plain o operation to args d).next ≤ o.next + 1) × ((with_plain o operation to args d).guard ≡ o.guard) × ((with_plain o operation to args d).checked ≡ is_overflowing operation) × ((with_plain o operation to args d).to ≡ o.to) × ((with_plain o operation to args d).target ≡ o.target) × ((with_plain o operation to args d).ended ≡ o.ended) × ((with_plain o operation to args d).at_end ≡ o.at_end)
 plain_fields o operation (Some b) args d = (refl, refl, omega arith, refl, refl, refl, refl, refl, refl)
 plain_fields o operation None args d = (refl, refl, omega arith, refl, refl, refl, refl, refl, refl)
+
+plain_rests : (o : Pass) (operation : OpCode) (to : Option BoxId) (args : List Arg) (d : Descr) → Rests o (with_plain o operation to args d)
+plain_rests o operation (Some b) args d = record { virtuals = refl; cache = refl; held = refl }
+plain_rests o operation None args d = record { virtuals = refl; cache = refl; held = refl }
 
 pub sets_is : (p : Part) → sets_overflow p ≡ overflowing_part p
 sets_is part.Plain = refl
@@ -106,6 +111,7 @@ keeps_plain_now op o going is =
       counted = let g : (with_plain o op.code op.result (args_of o op.args) op.descr).guard ≡ o.guard = f.3 in omega (arith, g);
       checked = λ s. f.4 ∙ sym (sets_is (part_of op.code)) ∙ s;
       printed = prints_plain op o (with_plain o op.code op.result (args_of o op.args) op.descr) (given_by o op.result) going f.0 f.1 (f.7 ∙ going, f.8) is f.3;
+      rests = plain_rests o op.code op.result (args_of o op.args) op.descr;
       to = f.5;
       target = f.6;
       forms = keeps_form_plain op o is;
@@ -147,6 +153,7 @@ keeps_kept_now op o going is no_exception = record {
   counted = omega arith;
   checked = λ s. no_set op is s;
   printed = prints_guard op o (kept_at o op.code (args_of o op.args) op.snapshot) going refl refl (going, refl) is no_exception refl;
+  rests = record { virtuals = refl; cache = refl; held = refl };
   to = refl;
   target = refl;
   forms = keeps_form_kept op o is;
@@ -172,6 +179,7 @@ keeps_skipped op o new going is always n = subst (KeepsAll op o) (sym n) (record
   counted = omega arith;
   checked = λ s. no_set op (inl is) s;
   printed = prints_nothing op o (skipped o) going refl refl (going, refl) (inr is) (ap (λ z. o.guard + counted z) (sym (ap guarding is)));
+  rests = record { virtuals = refl; cache = refl; held = refl };
   to = refl;
   target = refl;
   forms = keeps_form_skipped op o;
@@ -194,6 +202,7 @@ keeps_exited op o new going is never n = subst (KeepsAll op o) (sym n) (record {
   counted = omega arith;
   checked = λ s. no_set op (inl is) s;
   printed = prints_exit op o going is;
+  rests = record { virtuals = refl; cache = refl; held = refl };
   to = refl;
   target = refl;
   forms = keeps_form_exited op o (inl is);
@@ -220,6 +229,7 @@ keeps_pre op o going pre is = record {
   counted = omega arith;
   checked = λ s. absurd (false_true (sym (ap sets_overflow is) ∙ s));
   printed = prints_jump op o going pre is;
+  rests = record { virtuals = refl; cache = refl; held = refl };
   to = refl;
   target = refl;
   forms = keeps_form_jump op o is;
@@ -241,6 +251,7 @@ keeps_body op o going body is = record {
   counted = omega arith;
   checked = λ s. absurd (false_true (sym (ap sets_overflow is) ∙ s));
   printed = prints_body op o going body is;
+  rests = record { virtuals = refl; cache = refl; held = refl };
   to = refl;
   target = refl;
   forms = keeps_form_body op o body is;
@@ -269,6 +280,7 @@ keeps_finish op o new args value going is e f n = subst (KeepsAll op o) (sym (n 
   counted = omega arith;
   checked = λ s. absurd (false_true (sym (ap sets_overflow is) ∙ s));
   printed = prints_finish op o going is;
+  rests = record { virtuals = refl; cache = refl; held = refl };
   to = refl;
   target = refl;
   forms = keeps_form_finish op o is;

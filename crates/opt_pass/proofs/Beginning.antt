@@ -48,7 +48,9 @@ use Rattle.opt_pass.specs.Tables.{Names, name_in, with_name}
 use Rattle.opt_pass.specs.Starting.{numbered_from, with_names, made_box, entering, entered, entered_val, vtable_code, structure_code, making, makings, fills_of, all_fills, entered_store, stores_entered, known_arg, storing_at, storing, entry_ops, first_names, started}
 use Rattle.opt_pass.specs.Forming.{IsDefined, IsArg, IsNamed, AreFormed, Forms}
 use Rattle.opt_pass.specs.Rising.{Pairs}
-use Rattle.opt_pass.specs.Building.{given_by, AreRuled, Built}
+use Rattle.opt_pass.specs.Building.{given_by, AreRuled}
+use Rattle.opt_pass.specs.Late.{Built}
+use Rattle.opt_pass.proofs.Still.{forms_late, started_still}
 use Rattle.opt_pass.proofs.Bound.{name_same}
 use Rattle.opt_pass.proofs.Making.{nat_below}
 use Rattle.opt_pass.proofs.Snapping.{flat_both, no_more, has_contained}
@@ -56,7 +58,7 @@ use Rattle.opt_pass.proofs.Founding.{IsHeld, begun, Match, IsStoreFormed, number
 
 -- Lists
 
-each_all : {X : Type 0} (P : X → Type 0) (xs : List X) → All P xs → AllByRecursion P xs
+pub each_all : {X : Type 0} (P : X → Type 0) (xs : List X) → All P xs → AllByRecursion P xs
 each_all P xs h = recursion_from_All P xs h
 
 flat_each : {X Y : Type 0} (P : Y → Type 0) (f : X → List Y) (xs : List X) → AllByRecursion P (flat_map f xs) → AllByRecursion (λ x. AllByRecursion P (f x)) xs
@@ -81,21 +83,63 @@ fields_there t h s = by (slice_get t.sizes s) refl
     by None e = tt
     by (Some row) e = subst (AllByRecursion (λ f. f < length t.fields)) (sym (h.sizes_list_their_fields s row e)) (each_weaker (λ n. n < 0 + length t.fields) (λ n. n < length t.fields) (λ n lt. omega (arith, lt)) (places_from (λ (f : FieldRow). nat_eq f.size s) 0 t.fields) (places_below (λ (f : FieldRow). nat_eq f.size s) 0 t.fields))
 
-field_kind : (t : Table) (f : ℕ) → f < length t.fields → IsSome (kind_of_field t f)
+pub field_kind : (t : Table) (f : ℕ) → f < length t.fields → IsSome (kind_of_field t f)
 field_kind t f lt = ap is_some (ap (option_map (λ (row : FieldRow). row.kind)) (get_some t.fields f lt).1)
 
 array_kind : (t : Table) (a : ℕ) → a < length t.arrays → IsSome (kind_of_item t a)
 array_kind t a lt = ap is_some (ap (option_map (λ (row : ArrayRow). row.kind)) (get_some t.arrays a lt).1)
 
-spot_kind : (t : Table) (s : Spot) → NamesSpot t s → IsSome (kind_of_spot t s)
+pub spot_kind : (t : Table) (s : Spot) → NamesSpot t s → IsSome (kind_of_spot t s)
 spot_kind t (spot.Field f) n = field_kind t f n
 spot_kind t (spot.Item a i) n = array_kind t a n
 
-head_same : {X : Type 0} {x y : X} {xs ys : List X} → x ∷ xs ≡ y ∷ ys → x ≡ y
+pub head_same : {X : Type 0} {x y : X} {xs ys : List X} → x ∷ xs ≡ y ∷ ys → x ≡ y
 head_same e = cc
 
-tail_same : {X : Type 0} {x y : X} {xs ys : List X} → x ∷ xs ≡ y ∷ ys → xs ≡ ys
+pub tail_same : {X : Type 0} {x y : X} {xs ys : List X} → x ∷ xs ≡ y ∷ ys → xs ≡ ys
 tail_same e = cc
+
+-- Guards, and what sets and reads overflow
+
+pub makings_guards : (t : Table) (label k : ℕ) (ss : List Shape) → flat_map guards_of (makings t label k ss) ≡ []
+makings_guards t label k [] = refl
+makings_guards t label k (s ∷ ss) = ap (λ z. z ++ flat_map guards_of (makings t label (k + 1) ss)) (one s.of) ∙ makings_guards t label (k + 1) ss
+  where
+    one : (of : ShapeOf) → guards_of (making t (made_box label k) of (length s.parts)) ≡ []
+    one (shape.Size z) = refl
+    one (shape.Array a) = refl
+
+pub stores_guards : (ps : List Pending) → flat_map guards_of (map storing ps) ≡ []
+stores_guards [] = refl
+stores_guards (p ∷ ps) = ap (λ z. z ++ flat_map guards_of (map storing ps)) (one p.spot) ∙ stores_guards ps
+  where
+    one : (at : Spot) → guards_of (storing_at at p.base (known_arg p.value)) ≡ []
+    one (spot.Field f) = refl
+    one (spot.Item a i) = refl
+
+pub stores_pairs : (ps : List Pending) → Pairs false (map storing ps) false
+stores_pairs [] = refl
+stores_pairs (p ∷ ps) = one (stores_pairs ps) p.spot
+  where
+    one : Pairs false (map storing ps) false → (at : Spot) → Pairs false (storing_at at p.base (known_arg p.value) ∷ map storing ps) false
+    one r (spot.Field f) = (refl, r)
+    one r (spot.Item a i) = (refl, r)
+
+pub makings_pairs : (t : Table) (label k : ℕ) (ss : List Shape) (ys : List OptOp) → Pairs false ys false → Pairs false (makings t label k ss ++ ys) false
+makings_pairs t label k [] ys h = h
+makings_pairs t label k (s ∷ ss) ys h = one (makings_pairs t label (k + 1) ss ys h) s.of
+  where
+    vtable : Pairs false (makings t label (k + 1) ss ++ ys) false → (z : ℕ) (v : Option (List ℕ)) → Pairs false (opt.Plain (vtable_code v) (Some (made_box label k)) [] (descr.Size z) ∷ (makings t label (k + 1) ss ++ ys)) false
+    vtable r z None = (refl, r)
+    vtable r z (Some name) = (refl, r)
+
+    code_pairs : Pairs false (makings t label (k + 1) ss ++ ys) false → (z : ℕ) (x : Option SizeRow) → Pairs false (opt.Plain (structure_code x) (Some (made_box label k)) [] (descr.Size z) ∷ (makings t label (k + 1) ss ++ ys)) false
+    code_pairs r z None = (refl, r)
+    code_pairs r z (Some row) = vtable r z row.vtable
+
+    one : Pairs false (makings t label (k + 1) ss ++ ys) false → (of : ShapeOf) → Pairs false (making t (made_box label k) of (length s.parts) ∷ (makings t label (k + 1) ss ++ ys)) false
+    one r (shape.Size z) = code_pairs r z (slice_get t.sizes z)
+    one r (shape.Array a) = (refl, r)
 
 module _ (laws : Laws) (set : TraceSet) (inputs : List BoxId) (ops : List Op) (e : Entry) (r : AreRuled set inputs e ops) where
   abbrev t : Table
@@ -233,59 +277,19 @@ module _ (laws : Laws) (set : TraceSet) (inputs : List BoxId) (ops : List Op) (e
       long : length e.label + length e.shapes ≡ length all
       long = sym (length-append (numbered_from e.label 0) (objects_from (length e.label) 0 e.shapes) ∙ ap (λ z. z + length (objects_from (length e.label) 0 e.shapes)) (numbered_long e.label 0) ∙ ap (λ z. length e.label + z) (objects_long (length e.label) 0 e.shapes))
 
-  makings_guards : (label k : ℕ) (ss : List Shape) → flat_map guards_of (makings t label k ss) ≡ []
-  makings_guards label k [] = refl
-  makings_guards label k (s ∷ ss) = ap (λ z. z ++ flat_map guards_of (makings t label (k + 1) ss)) (one s.of) ∙ makings_guards label (k + 1) ss
-    where
-      one : (of : ShapeOf) → guards_of (making t (made_box label k) of (length s.parts)) ≡ []
-      one (shape.Size z) = refl
-      one (shape.Array a) = refl
-
-  stores_guards : (ps : List Pending) → flat_map guards_of (map storing ps) ≡ []
-  stores_guards [] = refl
-  stores_guards (p ∷ ps) = ap (λ z. z ++ flat_map guards_of (map storing ps)) (one p.spot) ∙ stores_guards ps
-    where
-      one : (at : Spot) → guards_of (storing_at at p.base (known_arg p.value)) ≡ []
-      one (spot.Field f) = refl
-      one (spot.Item a i) = refl
-
   entry_guards : flat_map guards_of (entry_ops t e) ≡ []
-  entry_guards = flat_both guards_of (makings t (length e.label) 0 e.shapes) (map storing (stores_entered t e)) ∙ ap (λ z. z ++ flat_map guards_of (map storing (stores_entered t e))) (makings_guards (length e.label) 0 e.shapes) ∙ stores_guards (stores_entered t e)
-
-  stores_pairs : (ps : List Pending) → Pairs false (map storing ps) false
-  stores_pairs [] = refl
-  stores_pairs (p ∷ ps) = one (stores_pairs ps) p.spot
-    where
-      one : Pairs false (map storing ps) false → (at : Spot) → Pairs false (storing_at at p.base (known_arg p.value) ∷ map storing ps) false
-      one r (spot.Field f) = (refl, r)
-      one r (spot.Item a i) = (refl, r)
-
-  makings_pairs : (label k : ℕ) (ss : List Shape) (ys : List OptOp) → Pairs false ys false → Pairs false (makings t label k ss ++ ys) false
-  makings_pairs label k [] ys h = h
-  makings_pairs label k (s ∷ ss) ys h = one (makings_pairs label (k + 1) ss ys h) s.of
-    where
-      vtable : Pairs false (makings t label (k + 1) ss ++ ys) false → (z : ℕ) (v : Option (List ℕ)) → Pairs false (opt.Plain (vtable_code v) (Some (made_box label k)) [] (descr.Size z) ∷ (makings t label (k + 1) ss ++ ys)) false
-      vtable r z None = (refl, r)
-      vtable r z (Some name) = (refl, r)
-
-      code_pairs : Pairs false (makings t label (k + 1) ss ++ ys) false → (z : ℕ) (x : Option SizeRow) → Pairs false (opt.Plain (structure_code x) (Some (made_box label k)) [] (descr.Size z) ∷ (makings t label (k + 1) ss ++ ys)) false
-      code_pairs r z None = (refl, r)
-      code_pairs r z (Some row) = vtable r z row.vtable
-
-      one : Pairs false (makings t label (k + 1) ss ++ ys) false → (of : ShapeOf) → Pairs false (making t (made_box label k) of (length s.parts) ∷ (makings t label (k + 1) ss ++ ys)) false
-      one r (shape.Size z) = code_pairs r z (slice_get t.sizes z)
-      one r (shape.Array a) = (refl, r)
+  entry_guards = flat_both guards_of (makings t (length e.label) 0 e.shapes) (map storing (stores_entered t e)) ∙ ap (λ z. z ++ flat_map guards_of (map storing (stores_entered t e))) (makings_guards t (length e.label) 0 e.shapes) ∙ stores_guards (stores_entered t e)
 
   pub built_start : (to : PieceId) (target : List BoxId) → Built set (numbered_from e.label 0) inputs ops 0 (started t inputs to target e)
   built_start to target = record {
-    forms = forms_start to target;
+    forms = forms_late set (numbered_from e.label 0) (started t inputs to target e) (started_still t inputs to target e) (forms_start to target);
     named = λ going b has. inputs_there inputs e.values [] b r.values (inl (subst (λ z. Has z b) (no_more inputs) has));
     guards = subst (AllByRecursion (λ g. g < 0)) (sym entry_guards) tt;
     once = subst IsOnce (sym entry_guards) tt;
     slots = tt;
     guard = λ going. refl;
     last = false;
-    pairs = makings_pairs (length e.label) 0 e.shapes (map storing (stores_entered t e)) (stores_pairs (stores_entered t e));
+    pairs = makings_pairs t (length e.label) 0 e.shapes (map storing (stores_entered t e)) (stores_pairs (stores_entered t e));
     goes = λ going. refl;
     ends = λ w. refl;
   }

@@ -40,7 +40,8 @@ use Rattle.opt_pass.specs.declared.start.Entering.{Entering}
 use Rattle.opt_pass.specs.declared.state.Pass.{Pass}
 use Rattle.opt_pass.specs.Tables.{Names, name_in, with_name, followed, known_or, meaning}
 use Rattle.opt_pass.specs.Starting.{numbered_from, with_names, renaming, renamed_box, renamed_arg, entering, made_box, entered, entered_val, makings, all_fills, entered_store, stores_entered, storing, entry_ops, first_names, started}
-use Rattle.opt_pass.specs.Standing.{known_of, at_states, IsValued, Stands, SameTurn}
+use Rattle.opt_pass.specs.Standing.{known_of, at_states, IsValued, Stands}
+use Rattle.opt_pass.specs.Late.{SameTurnLate}
 use Rattle.opt_pass.specs.Keeping.{CanEnter}
 use Rattle.opt_pass.proofs.Binding.{box_decides, bound_same, bound_other}
 use Rattle.opt_pass.proofs.Bound.{name_same, name_other, agrees_named}
@@ -49,6 +50,7 @@ use Rattle.opt_pass.proofs.Label.{Renamed, renamed_label, keeps_values}
 use Rattle.opt_pass.proofs.Making.{new_object, made_now, making_turns, up, shape_up, made_up, parts_up, nat_above, is_fresh, has_spots}
 use Rattle.opt_pass.proofs.Storing.{store_up, fills_up, stores_up, stores_made, up_all, all_entered, only_known, stores_turn}
 use Rattle.opt_pass.proofs.Whole.{rec_begin, SoFar}
+use Rattle.opt_pass.proofs.Still.{stands_late, started_still}
 
 false_true : false ≡ true → ⊥
 false_true e = cc
@@ -67,10 +69,10 @@ nones_set : (f : Shape → Shape) (k : ℕ) (x : Option Shape) (xs : List (Optio
 nones_set f zero x xs = refl
 nones_set f (suc k) x xs = ap (λ z. None ∷ z) (nones_set f k x xs)
 
-abbrev live : Entering → ℕ → Shape → Option Shape
+abbrev pub live : Entering → ℕ → Shape → Option Shape
 live n k s = Some (shape_up n k s)
 
-abbrev shapes_up : Entering → ℕ → List Shape → List (Option Shape)
+abbrev pub shapes_up : Entering → ℕ → List Shape → List (Option Shape)
 shapes_up n k rest = nones k ++ map (live n k) rest
 
 live_more : (n : Entering) (k : ℕ) (ss : List Shape) → map (option_map (made_shape k (made_box n.label k))) (map (live n k) ss) ≡ map (live n (k + 1)) ss
@@ -85,17 +87,17 @@ shapes_more n k s ss =
 
 -- What is known once the first k objects are made
 
-abbrev facts_up : Table → Entering → ℕ → (BoxId → Option Val) → List Pending → List Shape → List Shape → Facts
+abbrev pub facts_up : Table → Entering → ℕ → (BoxId → Option Val) → List Pending → List Shape → List Shape → Facts
 facts_up t n k names ps done rest = record { names = λ b. option_map (up n k) (names b); shapes = shapes_up n k rest; pending = stores_up t n k ps done; facts = [] }
 
-abbrev place_at : World → List ℕ → Opt → List ℕ → Place
+abbrev pub place_at : World → List ℕ → Opt → List ℕ → Place
 place_at w virtuals p mapped = record { box = value_in p.boxes; rec = w; opt = p.world; mapped = mapped; virtuals = virtuals }
 
-record MadeAt (t : Table) (n : Entering) (names : BoxId → Option Val) (ps : List Pending) (boxes : Boxes) (w : World) (virtuals : List ℕ) (k : ℕ) (done rest : List Shape) (p : Opt) : Type 0 where
-  mapped : List ℕ
-  agrees : Agrees t (facts_up t n k names ps done rest) boxes (place_at w virtuals p mapped)
-  fresh : (b : BoxId) → n.label + k ≤ b.number → value_in p.boxes b ≡ None
-  kinds : AreOfKind p.boxes
+pub record MadeAt (t : Table) (n : Entering) (names : BoxId → Option Val) (ps : List Pending) (boxes : Boxes) (w : World) (virtuals : List ℕ) (k : ℕ) (done rest : List Shape) (p : Opt) : Type 0 where
+  pub mapped : List ℕ
+  pub agrees : Agrees t (facts_up t n k names ps done rest) boxes (place_at w virtuals p mapped)
+  pub fresh : (b : BoxId) → n.label + k ≤ b.number → value_in p.boxes b ≡ None
+  pub kinds : AreOfKind p.boxes
 
 names_made : (n : Entering) (k : ℕ) (x : Option Val) → option_map (made_val k (made_box n.label k)) (option_map (up n k) x) ≡ option_map (up n (k + 1)) x
 names_made n k None = refl
@@ -156,12 +158,12 @@ make_one laws t e can n names ps boxes w virtuals k done rest s p lawful long h 
     kinds d u false z q = h.kinds d u (sym (bound_other laws (made_box n.label k) d (v.Obj (length p.world.objects)) p.boxes z) ∙ q)
 
 -- all of them
-record MadeAll (t : Table) (n : Entering) (names : BoxId → Option Val) (ps : List Pending) (boxes : Boxes) (w : World) (virtuals : List ℕ) (k : ℕ) (all rest : List Shape) (p : Opt) : Type 0 where
-  after : Opt
-  goes : drive_to (opt_step t) (makings t n.label k rest) p ≡ On after
-  made : MadeAt t n names ps boxes w virtuals (length all) all [] after
+pub record MadeAll (t : Table) (n : Entering) (names : BoxId → Option Val) (ps : List Pending) (boxes : Boxes) (w : World) (virtuals : List ℕ) (k : ℕ) (all rest : List Shape) (p : Opt) : Type 0 where
+  pub after : Opt
+  pub goes : drive_to (opt_step t) (makings t n.label k rest) p ≡ On after
+  pub made : MadeAt t n names ps boxes w virtuals (length all) all [] after
 
-append_none : {X : Type 0} (xs : List X) → xs ++ [] ≡ xs
+pub append_none : {X : Type 0} (xs : List X) → xs ++ [] ≡ xs
 append_none [] = refl
 append_none (x ∷ xs) = ap (λ ys. x ∷ ys) (append_none xs)
 
@@ -169,7 +171,7 @@ length_push : {X : Type 0} (xs : List X) (x : X) → length (xs ++ x ∷ []) ≡
 length_push [] x = refl
 length_push (y ∷ xs) x = let l : length (xs ++ x ∷ []) ≡ length xs + 1 = length_push xs x in omega (arith, l)
 
-make_all : (laws : Laws) (t : Table) (e : Entry) (can : CanEnter t e) (n : Entering) (names : BoxId → Option Val) (ps : List Pending) (boxes : Boxes) (w : World) (virtuals : List ℕ) (k : ℕ) (done rest : List Shape) (p : Opt)
+pub make_all : (laws : Laws) (t : Table) (e : Entry) (can : CanEnter t e) (n : Entering) (names : BoxId → Option Val) (ps : List Pending) (boxes : Boxes) (w : World) (virtuals : List ℕ) (k : ℕ) (done rest : List Shape) (p : Opt)
     → e.shapes ≡ done ++ rest → k ≡ length done → MadeAt t n names ps boxes w virtuals k done rest p → MadeAll t n names ps boxes w virtuals k e.shapes rest p
 make_all laws t e can n names ps boxes w virtuals k done [] p all long h =
     let whole : e.shapes ≡ done = all ∙ append_none done in
@@ -261,7 +263,7 @@ names_same laws n (c ∷ bs) (x ∷ xs) names table k h b = names_same laws n bs
     by d false q = h d ∙ sym (ap (option_map (meaning [])) (name_other laws c d (entered_val n x) table q))
 
 -- each name is one of the piece
-abbrev IsPlainName : Val → Type 0
+abbrev pub IsPlainName : Val → Type 0
 IsPlainName (Known a) = Unit {0}
 IsPlainName (Virtual m) = ⊥
 
@@ -276,7 +278,7 @@ names_plain laws n (c ∷ bs) (y ∷ xs) table h b x e = names_plain laws n bs x
 
 -- Virtual objects that are made are forgotten
 
-forgotten : (t : Table) (names : BoxId → Option Val) (shapes : List (Option Shape)) (boxes : Boxes) (at : Place) → ((b : BoxId) (x : Val) → names b ≡ Some x → IsPlainName x)
+pub forgotten : (t : Table) (names : BoxId → Option Val) (shapes : List (Option Shape)) (boxes : Boxes) (at : Place) → ((b : BoxId) (x : Val) → names b ≡ Some x → IsPlainName x)
     → Agrees t (record { names = names; shapes = shapes; pending = []; facts = [] }) boxes at → Agrees t (record { names = names; shapes = []; pending = []; facts = [] }) boxes (record at { virtuals = [] })
 forgotten t names shapes boxes at plain h = record {
   first = h.first;
@@ -385,5 +387,5 @@ pub so_far_start : (laws : Laws) (t : Table) (inputs : List BoxId) (to : PieceId
 so_far_start laws t inputs to target e all can = record {
   same = λ vs w us u kinds k.
       let s = stands_start laws t inputs to target e vs w us u can k in
-      subst (λ z. SameTurn t (started t inputs to target e) (On (rec_begin inputs vs w)) z) (sym s.goes) (refl, s.stands);
+      subst (λ z. SameTurnLate t (started t inputs to target e) (On (rec_begin inputs vs w)) z) (sym s.goes) (refl, stands_late t (started t inputs to target e) (rec_begin inputs vs w) s.after can.fields (started_still t inputs to target e) s.stands);
 }

@@ -36,7 +36,9 @@ use Rattle.opt_pass.specs.Contract.{kept_of}
 use Rattle.opt_pass.specs.Counting.{constants_in_fact, constants_of}
 use Rattle.opt_pass.specs.Pooling.{IsIn, IsInVal, Pools, KeepsPool, own_constants, brought, HasPool}
 use Rattle.opt_pass.proofs.Pooled.{pools_more, one_constant, name_pooled}
-use Rattle.opt_pass.proofs.Showing.{entry_none}
+use Rattle.opt_pass.proofs.Showing.{entry_none, late_none}
+use Rattle.opt_pass.proofs.Snapping.{flat_both}
+use Rattle.opt_pass.specs.Late.{late_entering, late_ops, made_name, made_names, settled}
 
 -- A pool that has the constants of all items is one for each
 
@@ -106,6 +108,35 @@ pool_start laws t inputs to target e =
         at_end = tt;
       };
     }
+
+-- All is settled
+
+made_pooled : (laws : Laws) (pool : List Arg) (n : Entering) → Has pool arg.Null → (names : Names) (b : BoxId) (x : Option Val) → ((c : BoxId) (y : Val) → name_in names c ≡ Some y → IsInVal pool y) → (c : BoxId) (y : Val) → name_in (made_name n names b x) c ≡ Some y → IsInVal pool y
+made_pooled laws pool n null names b None before = before
+made_pooled laws pool n null names b (Some (Known a)) before = before
+made_pooled laws pool n null names b (Some (Virtual k)) before = name_pooled laws pool names b (entered_val n (Virtual k)) (entered_in pool n null (Virtual k) tt) before
+
+all_made_pooled : (laws : Laws) (pool : List Arg) (n : Entering) → Has pool arg.Null → (names : Names) (held : List BoxId) → ((c : BoxId) (y : Val) → name_in names c ≡ Some y → IsInVal pool y) → (c : BoxId) (y : Val) → name_in (made_names n names held) c ≡ Some y → IsInVal pool y
+all_made_pooled laws pool n null names [] before = before
+all_made_pooled laws pool n null names (b ∷ held) before = all_made_pooled laws pool n null (made_name n names b (name_in names b)) held (made_pooled laws pool n null names b (name_in names b) before)
+
+append_none : {X : Type 0} (xs : List X) → xs ++ [] ≡ xs
+append_none [] = refl
+append_none (x ∷ xs) = ap (λ ys. x ∷ ys) (append_none xs)
+
+pub pool_settled : (laws : Laws) (t : Table) (e : Entry) (ops : List Op) (o : Pass) → HasPool e ops o → HasPool e ops (settled t o)
+pool_settled laws t e ops o h = record {
+  news = h.news;
+  few = h.few;
+  pools = record {
+    null = h.pools.null;
+    names = all_made_pooled laws (h.news ++ constants_of e) (late_entering o) h.pools.null o.names o.held h.pools.names;
+    forward = h.pools.forward;
+    guards = h.pools.guards;
+    snapshots = subst (λ z. AllByRecursion (Has (h.news ++ constants_of e)) (flat_map constants_in z)) (sym (flat_both snapshots_of o.ops (late_ops t o) ∙ ap (λ z. flat_map snapshots_of o.ops ++ z) (none_kept (late_ops t o) (late_none t o)) ∙ append_none (flat_map snapshots_of o.ops))) h.pools.snapshots;
+    at_end = h.pools.at_end;
+  };
+}
 
 -- One operation more
 

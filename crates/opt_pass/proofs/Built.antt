@@ -1,6 +1,6 @@
 -- One operation more, built.
 use Rattle.std.proofs.Common.{◌≡◌, ℕ, zero, suc, ◌+◌, ◌<◌, ◌≤◌, Bool, true, false, cond, List, [], ◌∷◌, ◌++◌, Option, Some, None, length, map, take, slice_get, refl, sym, ap, ◌∙◌, subst, append_assoc, arith, ◌⊎◌, inl, inr}
-use Rattle.std.specs.Prelude.{IsSome}
+use Rattle.std.specs.Prelude.{IsSome, is_some}
 use Rattle.std.specs.Option.{option_to_list, IsSomeAnd}
 use Rattle.std.specs.List.{AllByRecursion, flat_map, sum_by, count_by}
 use Rattle.std.proofs.lemmas.List.Sums.{sum_by-cons, sum_by-append}
@@ -34,7 +34,16 @@ use Rattle.opt_pass.proofs.Framing.{guard_at}
 use Rattle.opt_pass.specs.Keeping.{IsLeftAt, Printed, KeepsAll, IsRight, IsEnding, IsEndingBy}
 use Rattle.opt_pass.specs.Rising.{counted, Pairs, sets_behind, IsPairOf}
 use Rattle.opt_pass.specs.Forming.{Forms, IsRuled, IsScoped, HasNames, defined_in}
-use Rattle.opt_pass.specs.Building.{given_by, guards_in, Built}
+use Rattle.opt_pass.specs.Building.{given_by, guards_in}
+use Rattle.opt_pass.specs.Starting.{makings, storing}
+use Rattle.opt_pass.specs.Late.{IsStill, shapes_now, late_entering, late_stores, late_ops, made_names, settled, Built}
+use Rattle.trace_ops.specs.InRange.{IsTableInRange}
+use Rattle.trace_ops.specs.declared.piece.Val.{Val}
+use Rattle.trace_ops.specs.declared.piece.Val.TheVariants.{Virtual}
+use Rattle.opt_pass.proofs.LateNames.{made_in, name_made}
+use Rattle.opt_pass.proofs.Still.{still_rests, settled_still, forms_still, forms_late}
+use Rattle.opt_pass.proofs.LateForms.{settled_forms}
+use Rattle.opt_pass.proofs.Beginning.{makings_guards, stores_guards, stores_pairs, makings_pairs}
 use Rattle.opt_pass.proofs.Snapping.{flat_both, no_more}
 use Rattle.opt_pass.proofs.Rising.{pairs_push, behind_push, once_more}
 
@@ -102,7 +111,7 @@ slots_kinds names forward (f ∷ frames) =
     ∙ sym (map_both kind_of_arg (map (meant names forward) f.slots) (map (meant names forward) (slots_of frames)))
     ∙ ap (map kind_of_arg) (sym (map_both (meant names forward) f.slots (slots_of frames)))
 
-scope_of : (names : Names) (known : List BoxId) (op : Op) → ((b : BoxId) → Has known b → IsSome (name_in names b)) → AllByRecursion (Has known) (boxes_in op) → IsScoped names op
+pub scope_of : (names : Names) (known : List BoxId) (op : Op) → ((b : BoxId) → Has known b → IsSome (name_in names b)) → AllByRecursion (Has known) (boxes_in op) → IsScoped names op
 scope_of names known op w h =
     let s = each_parts (λ (b : BoxId). IsSome (name_in names b)) (flat_map boxes_of_arg op.args) (flat_map (λ (f : Frame). flat_map boxes_of_arg f.slots) op.snapshot) (each_weaker (Has known) (λ (b : BoxId). IsSome (name_in names b)) w (boxes_in op) h) in
     record { args = s.0; slots = subst (AllByRecursion (λ (b : BoxId). IsSome (name_in names b))) (slots_flat op.snapshot) s.1 }
@@ -112,7 +121,7 @@ result_here None b h = absurd h
 result_here (Some c) b (inl e) = ap Some e
 result_here (Some c) b (inr h) = absurd h
 
-given_more : (inputs : List BoxId) (ops : List Op) (n : ℕ) (op : Op) (b : BoxId) → take (n + 1) ops ≡ take n ops ++ op ∷ [] → Has (given_by inputs (take (n + 1) ops)) b → Has (given_by inputs (take n ops)) b ⊎ (op.result ≡ Some b)
+pub given_more : (inputs : List BoxId) (ops : List Op) (n : ℕ) (op : Op) (b : BoxId) → take (n + 1) ops ≡ take n ops ++ op ∷ [] → Has (given_by inputs (take (n + 1) ops)) b → Has (given_by inputs (take n ops)) b ⊎ (op.result ≡ Some b)
 given_more inputs ops n op b split h = by (has_cases (given_by inputs (take n ops)) (option_to_list op.result ++ []) b (subst (λ z. Has z b) same h))
   where
     same : given_by inputs (take (n + 1) ops) ≡ given_by inputs (take n ops) ++ (option_to_list op.result ++ [])
@@ -124,8 +133,8 @@ given_more inputs ops n op b split h = by (has_cases (given_by inputs (take n op
 
 pub built_more : (laws : Laws) (set : TraceSet) (label inputs : List BoxId) (ops : List Op) (n : ℕ) (op : Op) (old new : Pass) → take (n + 1) ops ≡ take n ops ++ op ∷ []
     → AreDistinct old.target → IsRight set.table old.target op → IsRuled set.table op → slice_get ops n ≡ Some op → AllByRecursion (Has (given_by inputs (take n ops))) (boxes_in op) → reads_overflow op.code ≡ sets_behind (take n ops)
-    → Built set label inputs ops n old → KeepsAll op old new → Built set label inputs ops (n + 1) new
-built_more laws set label inputs ops n op old new split apart right ruled at scoped tested h k =
+    → IsStill old → Built set label inputs ops n old → KeepsAll op old new → Built set label inputs ops (n + 1) new
+built_more laws set label inputs ops n op old new split apart right ruled at scoped tested still h k =
     let p : Printed op old new = k.printed in
     let pair : Paired ops (n + 1) new = one_pair ops n op old new h.last split h.pairs (h.goes p.going) tested p.more p.ops p.pairs p.ending in
     let count : guards_in (take (n + 1) ops) ≡ guards_in (take n ops) + counted (is_guard op.code) = ap guards_in split ∙ sum_by-append (λ (x : Op). counted (is_guard x.code)) (take n ops) (op ∷ []) ∙ ap (λ z. guards_in (take n ops) + z) (one op) in
@@ -135,7 +144,7 @@ built_more laws set label inputs ops n op old new split apart right ruled at sco
     let late : AllByRecursion (λ g. g < guards_in (take n ops) + counted (is_guard op.code)) (flat_map guards_of p.more) = new_below (guards_in (take n ops)) (counted (is_guard op.code)) (flat_map guards_of p.more) numbers p.numbered in
     let early : AllByRecursion (λ g. g < guards_in (take n ops) + counted (is_guard op.code)) (flat_map guards_of old.ops) = each_weaker (λ g. g < guards_in (take n ops)) (λ g. g < guards_in (take n ops) + counted (is_guard op.code)) (λ g lt. omega (arith, lt)) (flat_map guards_of old.ops) h.guards in
     record {
-      forms = k.forms laws set label apart right.valued right.ends ruled (scope_of old.names (given_by inputs (take n ops)) op (h.named p.going) scoped) h.forms;
+      forms = forms_late set label new (still_rests old new k.rests still) (k.forms laws set label apart right.valued right.ends ruled (scope_of old.names (given_by inputs (take n ops)) op (h.named p.going) scoped) (forms_still set label old still h.forms));
       named = λ going b has. elim (given_more inputs ops n op b split has) [ inl w ↦ (k.names laws).0 b (h.named p.going b w) | inr w ↦ (k.names laws).1 going ruled.gives b w ];
       guards = subst (AllByRecursion (λ g. g < guards_in (take (n + 1) ops))) (sym same) (subst (λ c. AllByRecursion (λ g. g < c) (flat_map guards_of old.ops ++ flat_map guards_of p.more)) (sym count) (each_append (λ g. g < guards_in (take n ops) + counted (is_guard op.code)) (flat_map guards_of old.ops) (flat_map guards_of p.more) early late));
       once = subst IsOnce (sym same) (once_more (guards_in (take n ops)) (flat_map guards_of old.ops) (flat_map guards_of p.more) (few (is_guard op.code) p.numbered) numbers h.guards h.once);
@@ -147,10 +156,13 @@ built_more laws set label inputs ops n op old new split apart right ruled at sco
       ends = pair.ends;
     }
   where
+    formed : Forms set label old
+    formed = forms_still set label old still h.forms
+
     slots_meant : map kind_of_arg (map (meant old.names old.forward) (slots_of op.snapshot)) ≡ map kind_of_arg (slots_of op.snapshot)
     slots_meant =
-        kinds_kept set.table (defined_in label old) old.names old.forward h.forms.names h.forms.forward (slots_of op.snapshot)
-        (meant_args set.table (defined_in label old) old.names old.forward h.forms.names h.forms.forward (slots_of op.snapshot) ruled.slots (scope_of old.names (given_by inputs (take n ops)) op (h.named k.printed.going) scoped).slots)
+        kinds_kept set.table (defined_in label old) old.names old.forward formed.names formed.forward (slots_of op.snapshot)
+        (meant_args set.table (defined_in label old) old.names old.forward formed.names formed.forward (slots_of op.snapshot) ruled.slots (scope_of old.names (given_by inputs (take n ops)) op (h.named k.printed.going) scoped).slots)
 
     left : old.guard ≡ guards_in (take n ops) → (y : ℕ × Entry) → IsLeftAt op old y → HasSlotsOf ops y
     left own y w =
@@ -163,3 +175,41 @@ built_more laws set label inputs ops n op old new split apart right ruled at sco
     few : (q : Bool) {m : ℕ} → m ≤ counted q → m ≤ 1
     few true le = le
     few false le = omega (arith, le)
+
+-- all is settled, where nothing that sets overflow stands last
+pub built_settled : (laws : Laws) (set : TraceSet) (label inputs : List BoxId) (ops : List Op) (n : ℕ) (o : Pass) → IsTableInRange set.table → o.ended ≡ false → sets_behind (take n ops) ≡ false → Built set label inputs ops n o → Built set label inputs ops n (settled set.table o)
+built_settled laws set label inputs ops n o ranged going quiet h = record {
+  forms = forms_late set label (settled set.table o) (settled_still set.table o) (settled_forms laws set label o ranged h.forms);
+  named = λ w b has. ap is_some (name_is b) ∙ some (name_in o.names b) (h.named going b has);
+  guards = subst (AllByRecursion (λ g. g < guards_in (take n ops))) (sym same) h.guards;
+  once = subst IsOnce (sym same) h.once;
+  slots = h.slots;
+  guard = λ w. h.guard going;
+  last = false;
+  pairs = pairs_both false o.ops (late_ops set.table o) (subst (Pairs false o.ops) (h.goes going ∙ quiet) h.pairs) late;
+  goes = λ w. sym quiet;
+  ends = λ w. refl;
+}
+  where
+    none : flat_map guards_of (late_ops set.table o) ≡ []
+    none = flat_both guards_of (makings set.table o.next 0 (shapes_now o)) (map storing (late_stores set.table o)) ∙ ap (λ z. z ++ flat_map guards_of (map storing (late_stores set.table o))) (makings_guards set.table o.next 0 (shapes_now o)) ∙ stores_guards (late_stores set.table o)
+
+    same : flat_map guards_of (o.ops ++ late_ops set.table o) ≡ flat_map guards_of o.ops
+    same = flat_both guards_of o.ops (late_ops set.table o) ∙ ap (λ z. flat_map guards_of o.ops ++ z) none ∙ no_more (flat_map guards_of o.ops)
+
+    late : Pairs false (late_ops set.table o) false
+    late = makings_pairs set.table o.next 0 (shapes_now o) (map storing (late_stores set.table o)) (stores_pairs (late_stores set.table o))
+
+    pairs_both : (p : Bool) (xs ys : List OptOp) → Pairs p xs false → Pairs false ys false → Pairs p (xs ++ ys) false
+    pairs_both p [] ys w k = subst (λ q. Pairs q ys false) (sym w) k
+    pairs_both p (x ∷ xs) ys w k = (w.0, pairs_both (sets_overflow x) xs ys w.1 k)
+
+    held : (b : BoxId) (k : ℕ) → name_in o.names b ≡ Some (Virtual k) → Has o.held b
+    held b k e = (h.forms.names b (Virtual k) e).2
+
+    name_is : (b : BoxId) → name_in (made_names (late_entering o) o.names o.held) b ≡ made_in (late_entering o) (name_in o.names b)
+    name_is b = name_made laws (late_entering o) b o.names o.held (held b)
+
+    some : (x : Option Val) → IsSome x → IsSome (made_in (late_entering o) x)
+    some None w = w
+    some (Some x) w = refl

@@ -387,7 +387,7 @@ module _ (set : TraceSet) (id : PieceId) (to : PieceId) (e : Entry) (s : TraceSe
         guards = bare_costs (own_weight set id.trace + cost_of e) o.guards m.shows.held;
         boxes = omega (arith, long, shapes, labels, all, m.shows.boxes);
         labels = all_weaker (λ (x : ℕ × Entry). length x.1.label + length x.1.shapes ≤ length (numbered_from e.label 0 ++ flat_map results_of o.ops)) (λ (x : ℕ × Entry). length x.1.label + length x.1.shapes ≤ length e.label + length e.shapes + length (ops_at set id.trace))
-            (λ x le. omega (arith, le, long, number, defined, boxes)) o.guards (entries_fit set o.to o.target (numbered_from e.label 0) o.ops o.guards b.forms.ops m.shows.entries b.forms.bridges m.shows.held);
+            (λ x le. omega (arith, le, long, number, defined, boxes)) o.guards (entries_fit set o.to o.target (numbered_from e.label 0) o.ops o.guards b.formed m.shows.entries b.bridges m.shows.held);
       }
 
   pub made_frames : HasFramesOf (ops_at set id.trace) o.ops
@@ -421,7 +421,7 @@ module _ (set : TraceSet) (id : PieceId) (to : PieceId) (e : Entry) (s : TraceSe
 
   pub made_lawful : (laws : Laws) → IsInRange set → IsWellFormed set → JumpsTo set id.trace to.trace → IsLawful set e → map kind_of_val e.values ≡ map (λ (b : BoxId). Some b.kind) (inputs_of (slice_get set.traces id.trace)) → inputs ≡ inputs_of (slice_get s.traces id.trace) → target ≡ inputs_of (slice_get s.traces to.trace)
       → AreLawful set o.guards o.at_end
-  made_lawful laws ranged formed aims lawful values i g = let b = built_now laws ranged formed aims lawful values i g in (b.forms.bridges, b.forms.at_end)
+  made_lawful laws ranged formed aims lawful values i g = let b = built_now laws ranged formed aims lawful values i g in (b.bridges, b.at_end)
 
   pub made_formed : (laws : Laws) → IsInRange set → IsWellFormed set → JumpsTo set id.trace to.trace → IsLawful set e → map kind_of_val e.values ≡ map (λ (b : BoxId). Some b.kind) (inputs_of (slice_get set.traces id.trace)) → inputs ≡ inputs_of (slice_get s.traces id.trace) → target ≡ inputs_of (slice_get s.traces to.trace)
       → id.trace < length set.traces → (labels : PieceId → Option (List BoxId)) → HasInputs labels to (inputs_of (slice_get set.traces to.trace)) → IsFormed set labels (record { id = id; label = label; ops = o.ops })
@@ -430,5 +430,5 @@ module _ (set : TraceSet) (id : PieceId) (to : PieceId) (e : Entry) (s : TraceSe
       let tr = get_some set.traces id.trace lt in
       let last : EndsLast (ops_at set id.trace) = last_ends set formed id.trace lt in
       let guards : AllByRecursion (λ g. g < guards_in tr.0) (flat_map guards_of o.ops) = subst (λ z. AllByRecursion (λ g. g < guards_in_ops z) (flat_map guards_of o.ops)) (ap ops_of tr.1) b.guards in
-      let whole : IsFormed set labels (record { id = id; label = numbered_from e.label 0; ops = o.ops }) = is_formed set labels id to (inputs_of (slice_get set.traces to.trace)) e.label o tr.0 tr.1 b.aim b.inputs b.forms (made_ends formed lt g) guards b.once (b.pairs last) there in
+      let whole : IsFormed set labels (record { id = id; label = numbered_from e.label 0; ops = o.ops }) = is_formed set labels id to (inputs_of (slice_get set.traces to.trace)) e.label o tr.0 tr.1 b.aim b.inputs b.formed (made_ends formed lt g) guards b.once (b.pairs last) there in
       subst (λ z. IsFormed set labels (record { id = id; label = z; ops = o.ops })) (sym (l ∙ ap (λ z. numbered_from z 0) it)) whole

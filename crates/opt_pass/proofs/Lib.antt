@@ -5,6 +5,8 @@ pub mod NamesAll
 pub mod Filling
 pub mod Runs
 pub mod Args
+pub mod LateNames
+pub mod Still
 pub mod Whole
 pub mod Bound
 pub mod Plain
@@ -16,8 +18,11 @@ pub mod Label
 pub mod Making
 pub mod Storing
 pub mod Begun
+pub mod Settling
+pub mod Readied
 pub mod Showing
 pub mod Loop
+pub mod NewObjects
 pub mod Lawful
 pub mod Pures
 pub mod PureArms
@@ -32,7 +37,9 @@ pub mod Rising
 pub mod Beginning
 pub mod Ruled
 pub mod Sounding
+pub mod LateForms
 pub mod Built
+pub mod LateStep
 pub mod Naming
 pub mod Framing
 pub mod Counted

@@ -76,6 +76,7 @@ keeps_value op o new of value going pure gives is form n = subst (KeepsAll op o)
   counted = omega arith;
   checked = λ s. no_set op.code pure s;
   printed = prints_nothing op o (named_as o of value) going refl refl (going, refl) (inl (pure_plain op.code pure)) (no_more_counted o.guard (is_guard op.code) (performed_guards op.code (inl (pure_plain op.code pure))));
+  rests = record { virtuals = refl; cache = refl; held = refl };
   to = refl;
   target = refl;
   forms = keeps_form_value op o of value gives form;
@@ -184,6 +185,7 @@ keeps_made op o new of raws args going pure gives few_raws few is_raw is made =
       counted = omega (arith, count);
       checked = λ s. no_set op.code pure s;
       printed = prints_plain op o new (Some (next_box o of)) going (ap (λ (z : Pass). z.ops) noted.rest) (ap (λ (z : Pass). z.guards) noted.rest) (ap (λ (z : Pass). z.ended) noted.rest ∙ going, ap (λ (z : Pass). z.at_end) noted.rest) (inl (pure_plain op.code pure)) count;
+      rests = record { virtuals = ap (λ (z : Pass). z.virtuals) noted.rest; cache = ap (λ (z : Pass). z.cache) noted.rest; held = ap (λ (z : Pass). z.held) noted.rest };
       to = ap (λ (z : Pass). z.to) noted.rest;
       target = ap (λ (z : Pass). z.target) noted.rest;
       forms = keeps_form_made op o new of (inl (pure_plain op.code pure)) gives (subst IsFew is_raw few_raws) (subst IsFew is few) noted;

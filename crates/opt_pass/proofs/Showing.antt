@@ -43,7 +43,10 @@ use Rattle.lists.proofs.Eaches.{each_weaker}
 use Rattle.opt_pass.specs.Rising.{counted}
 use Rattle.opt_pass.specs.Building.{guards_in}
 use Rattle.opt_pass.proofs.Framing.{guard_at}
-use Rattle.opt_pass.specs.Keeping.{IsKeptOf, IsBare, Goes, IsEndingBy, IsEnding, Printed, weight_from, EndsLast, Shows, IsJumpOf, IsOfJump}
+use Rattle.opt_pass.specs.Keeping.{IsKeptOf, IsBare, Goes, IsEndingBy, IsEnding, Printed, Rests, weight_from, EndsLast, Shows, IsJumpOf, IsOfJump}
+use Rattle.opt_pass.specs.Tables.{Names, meaning, shape_now, pending_now}
+use Rattle.opt_pass.proofs.Ends.{long_map}
+use Rattle.opt_pass.specs.Late.{live_in, late_cost, shapes_now, stores_now, late_entering, late_ops, settled}
 
 -- Sums and lists one behind the other
 
@@ -206,9 +209,9 @@ Ending to target o = ((o.ended ≡ false) × (o.at_end ≡ plain_entry []) × Al
 
 pub record Shown (to : PieceId) (target : List BoxId) (e : Entry) (ops : List Op) (n : ℕ) (o : Pass) : Type 0 where
   pub entries : HasEntries o.ops o.guards
-  pub small : sum_by own_size o.ops ≤ weight_from (take n ops) + cost_of e
+  pub small : sum_by own_size o.ops + late_cost o ≤ weight_from (take n ops) + cost_of e
   pub ending : Ending to target o
-  pub boxes : length (flat_map results_of o.ops) ≤ length e.shapes + n
+  pub boxes : length (flat_map results_of o.ops) + length (live_in o.virtuals) ≤ length e.shapes + n
   pub bare : IsBare o.at_end
   pub held : AllByRecursion (λ x. IsBare x.1) o.guards
   pub guard : o.ended ≡ false → o.guard ≡ guards_in (take n ops)
@@ -249,9 +252,9 @@ jump_of ops n op at (opt.Finish v) h = tt
 pub shown_start : (t : Table) (inputs : List BoxId) (to : PieceId) (target : List BoxId) (e : Entry) (ops : List Op) → Shown to target e ops 0 (started t inputs to target e)
 shown_start t inputs to target e ops = let h = entry_first t e in record {
   entries = subst (λ z. AllZip IsEntryAt z []) (sym h.none) tt;
-  small = omega (arith, h.small);
+  small = let none : late_cost (started t inputs to target e) ≡ 0 = refl in omega (arith, none, h.small);
   ending = inl (refl, refl, h.goes);
-  boxes = let few : results (entry_ops t e) ≤ length e.shapes = entry_results t e in omega (arith, few);
+  boxes = let few : results (entry_ops t e) ≤ length e.shapes = entry_results t e in let none : length (live_in (started t inputs to target e).virtuals) ≡ 0 = refl in omega (arith, few, none);
   bare = (refl, refl);
   held = tt;
   guard = λ going. refl;
@@ -277,17 +280,19 @@ more_ends to target old new [] aim there ops none goes h = inl (h.0, h.1 ∙ non
 more_ends to target old new (x ∷ []) aim there ops none goes h = one_ends to target old new x (is_end x) aim there ops none goes h
 more_ends to target old new (x ∷ y ∷ more) aim there ops none goes h = absurd h
 
-pub shown_more : (to : PieceId) (target : List BoxId) (e : Entry) (ops : List Op) (n : ℕ) (op : Op) (old new : Pass) → take (n + 1) ops ≡ take n ops ++ op ∷ [] → slice_get ops n ≡ Some op → old.to ≡ to → old.target ≡ target → Shown to target e ops n old → Printed op old new → Shown to target e ops (n + 1) new
-shown_more to target e ops n op old new split at aim there h k = record {
+pub shown_more : (to : PieceId) (target : List BoxId) (e : Entry) (ops : List Op) (n : ℕ) (op : Op) (old new : Pass) → take (n + 1) ops ≡ take n ops ++ op ∷ [] → slice_get ops n ≡ Some op → old.to ≡ to → old.target ≡ target → Shown to target e ops n old → Rests old new → Printed op old new → Shown to target e ops (n + 1) new
+shown_more to target e ops n op old new split at aim there h r k = record {
   entries = subst (λ z. AllZip IsEntryAt z new.guards) (sym (ap (flat_map kept_of) k.ops ∙ flat_both kept_of old.ops k.more)) (subst (AllZip IsEntryAt (flat_map kept_of old.ops ++ flat_map kept_of k.more)) (sym k.guards) (zip_append IsEntryAt (flat_map kept_of old.ops) old.guards (flat_map kept_of k.more) k.late h.entries k.entries));
   small =
       let one : sum_by own_size new.ops ≡ sum_by own_size old.ops + sum_by own_size k.more = ap (sum_by own_size) k.ops ∙ sum_by-append own_size old.ops k.more in
       let two : weight_from (take (n + 1) ops) ≡ weight_from (take n ops) + weight_from (op ∷ []) = ap weight_from split ∙ sum_by-append (λ (x : Op). 1 + length x.args) (take n ops) (op ∷ []) in
-      omega (arith, one, two, h.small, k.small);
+      let same : late_cost new ≡ late_cost old = ap (λ z. sum_by shape_cost (live_in z) + sum_by store_cost new.cache.pending) r.virtuals ∙ ap (λ z. sum_by shape_cost (live_in old.virtuals) + sum_by store_cost z.pending) r.cache in
+      omega (arith, one, two, same, h.small, k.small);
   ending = by h.ending;
   boxes =
       let both : results new.ops ≡ results old.ops + results k.more = ap results k.ops ∙ results_both old.ops k.more in
-      omega (arith, both, h.boxes, k.boxes);
+      let same : length (live_in new.virtuals) ≡ length (live_in old.virtuals) = ap (λ z. length (live_in z)) r.virtuals in
+      omega (arith, both, same, h.boxes, k.boxes);
   bare = k.bare h.bare;
   held = subst (AllByRecursion (λ x. IsBare x.1)) (sym k.guards) (each_append (λ x. IsBare x.1) old.guards k.late h.held k.held);
   guard = λ going. k.guard going ∙ ap (λ z. z + counted (is_guard op.code)) (h.guard k.going) ∙ sym count;
@@ -310,6 +315,109 @@ shown_more to target e ops n op old new split at aim there h k = record {
     by : Ending to target old → Ending to target new
     by (inl g) = more_ends to target old new k.more aim there k.ops g.1 g.2 k.ending
     by (inr g) = absurd (false_true (sym k.going ∙ g.0))
+
+-- All is settled
+
+zero_now : (forward : Names) (x : Val) → is_zero x ≡ true → is_zero (meaning forward x) ≡ true
+zero_now forward (Known (arg.Of b)) e = absurd (false_true e)
+zero_now forward (Known (arg.Const z)) e = e
+zero_now forward (Known arg.Null) e = e
+zero_now forward (Known (arg.Class k)) e = absurd (false_true e)
+zero_now forward (Known (arg.Func k)) e = absurd (false_true e)
+zero_now forward (Known (arg.Ptr k)) e = absurd (false_true e)
+zero_now forward (Virtual k) e = absurd (false_true e)
+
+part_now : (forward : Names) (of : ShapeOf) (x : Val) → part_cost of (meaning forward x) ≤ part_cost of x
+part_now forward of x = by (is_zero x) (is_zero (meaning forward x)) (zero_now forward x)
+  where
+    by : (q z : Bool) → (q ≡ true → z ≡ true) → cond z 0 (filling_cost of) ≤ cond q 0 (filling_cost of)
+    by true true h = omega arith
+    by false true h = omega arith
+    by false false h = omega arith
+    by true false h = absurd (false_true (h refl))
+
+parts_now : (forward : Names) (of : ShapeOf) (xs : List Val) → sum_by (part_cost of) (map (meaning forward) xs) ≤ sum_by (part_cost of) xs
+parts_now forward of [] = omega arith
+parts_now forward of (x ∷ xs) =
+    let one : part_cost of (meaning forward x) ≤ part_cost of x = part_now forward of x in
+    let rest : sum_by (part_cost of) (map (meaning forward) xs) ≤ sum_by (part_cost of) xs = parts_now forward of xs in
+    let new : sum_by (part_cost of) (meaning forward x ∷ map (meaning forward) xs) ≡ part_cost of (meaning forward x) + sum_by (part_cost of) (map (meaning forward) xs) = sum_by-cons (part_cost of) (meaning forward x) (map (meaning forward) xs) in
+    let old : sum_by (part_cost of) (x ∷ xs) ≡ part_cost of x + sum_by (part_cost of) xs = sum_by-cons (part_cost of) x xs in
+    omega (arith, one, rest, new, old)
+
+shapes_cost : (forward : Names) (ss : List Shape) → sum_by shape_cost (map (shape_now forward) ss) ≤ sum_by shape_cost ss
+shapes_cost forward [] = omega arith
+shapes_cost forward (s ∷ ss) =
+    let one : sum_by (part_cost s.of) (map (meaning forward) s.parts) ≤ sum_by (part_cost s.of) s.parts = parts_now forward s.of s.parts in
+    let rest : sum_by shape_cost (map (shape_now forward) ss) ≤ sum_by shape_cost ss = shapes_cost forward ss in
+    let new : sum_by shape_cost (shape_now forward s ∷ map (shape_now forward) ss) ≡ shape_cost (shape_now forward s) + sum_by shape_cost (map (shape_now forward) ss) = sum_by-cons shape_cost (shape_now forward s) (map (shape_now forward) ss) in
+    let old : sum_by shape_cost (s ∷ ss) ≡ shape_cost s + sum_by shape_cost ss = sum_by-cons shape_cost s ss in
+    omega (arith, one, rest, new, old)
+
+stores_cost : (forward : Names) (ps : List Pending) → sum_by store_cost (map (pending_now forward) ps) ≡ sum_by store_cost ps
+stores_cost forward [] = refl
+stores_cost forward (p ∷ ps) = sum_by-cons store_cost (pending_now forward p) (map (pending_now forward) ps) ∙ ap (λ z. spot_cost p.spot + z) (stores_cost forward ps) ∙ sym (sum_by-cons store_cost p ps)
+
+late_first : (t : Table) (o : Pass) → IsFirst (late_ops t o) (late_cost o)
+late_first t o =
+    let n : Entering = late_entering o in
+    let ss : List Shape = shapes_now o in
+    let ps : List Pending = stores_now o in
+    let todo : List Pending = map (entered_store n) ps ++ all_fills t n 0 ss in
+    let h = first_both (makings t o.next 0 ss) (map storing todo) (sum_by (λ (s : Shape). making_cost s.of) ss) (sum_by store_cost todo) (makings_first t o.next 0 ss) (stores_first todo) in
+    let both : sum_by store_cost todo ≡ sum_by store_cost (map (entered_store n) ps) + sum_by store_cost (all_fills t n 0 ss) = sum_by-append store_cost (map (entered_store n) ps) (all_fills t n 0 ss) in
+    let own : sum_by store_cost (map (entered_store n) ps) ≡ sum_by store_cost ps = entered_cost n ps in
+    let made : sum_by (λ (s : Shape). making_cost s.of) ss + sum_by store_cost (all_fills t n 0 ss) ≤ sum_by shape_cost ss = all_cost t n 0 ss in
+    let less : sum_by shape_cost ss ≤ sum_by shape_cost (live_in o.virtuals) = shapes_cost o.forward (live_in o.virtuals) in
+    let same : sum_by store_cost ps ≡ sum_by store_cost o.cache.pending = stores_cost o.forward o.cache.pending in
+    record { goes = h.goes; none = h.none; small = omega (arith, h.small, both, own, made, less, same) }
+
+late_results : (t : Table) (o : Pass) → results (late_ops t o) ≤ length (live_in o.virtuals)
+late_results t o =
+    let n : Entering = late_entering o in
+    let todo : List Pending = map (entered_store n) (stores_now o) ++ all_fills t n 0 (shapes_now o) in
+    let both : results (late_ops t o) ≡ results (makings t o.next 0 (shapes_now o)) + results (map storing todo) = results_both (makings t o.next 0 (shapes_now o)) (map storing todo) in
+    let makes : results (makings t o.next 0 (shapes_now o)) ≤ length (shapes_now o) = makings_results t o.next 0 (shapes_now o) in
+    let none : results (map storing todo) ≡ 0 = stores_results todo in
+    let long : length (shapes_now o) ≡ length (live_in o.virtuals) = long_map (shape_now o.forward) (live_in o.virtuals) in
+    omega (arith, both, makes, none, long)
+
+pub late_none : (t : Table) (o : Pass) → flat_map kept_of (late_ops t o) ≡ []
+late_none t o = (late_first t o).none
+
+pub shown_settled : (t : Table) (to : PieceId) (target : List BoxId) (e : Entry) (ops : List Op) (n : ℕ) (o : Pass) → o.ended ≡ false → Shown to target e ops n o → Shown to target e ops n (settled t o)
+shown_settled t to target e ops n o going h = record {
+  entries = subst (λ z. AllZip IsEntryAt z o.guards) (sym kept) h.entries;
+  small =
+      let one : sum_by own_size (o.ops ++ late_ops t o) ≡ sum_by own_size o.ops + sum_by own_size (late_ops t o) = sum_by-append own_size o.ops (late_ops t o) in
+      omega (arith, one, first.small, h.small);
+  ending = by h.ending;
+  boxes =
+      let both : results (o.ops ++ late_ops t o) ≡ results o.ops + results (late_ops t o) = results_both o.ops (late_ops t o) in
+      let few : results (late_ops t o) ≤ length (live_in o.virtuals) = late_results t o in
+      omega (arith, both, few, h.boxes);
+  bare = h.bare;
+  held = h.held;
+  guard = h.guard;
+  frames = subst (AllByRecursion (KeepsFrames ops)) (sym kept) h.frames;
+  jumps = each_append (IsOfJump ops) o.ops (late_ops t o) h.jumps (each_weaker GoesOn (IsOfJump ops) (going_jumps ops) (late_ops t o) first.goes);
+  exceptions = each_append KeepsNoException o.ops (late_ops t o) h.exceptions (no_exceptions (late_ops t o) first.none);
+  left = h.left;
+}
+  where
+    first : IsFirst (late_ops t o) (late_cost o)
+    first = late_first t o
+
+    append_none : {X : Type 0} (xs : List X) → xs ++ [] ≡ xs
+    append_none [] = refl
+    append_none (z ∷ zs) = ap (λ l. z ∷ l) (append_none zs)
+
+    kept : flat_map kept_of (o.ops ++ late_ops t o) ≡ flat_map kept_of o.ops
+    kept = flat_both kept_of o.ops (late_ops t o) ∙ ap (λ z. flat_map kept_of o.ops ++ z) first.none ∙ append_none (flat_map kept_of o.ops)
+
+    by : Ending to target o → Ending to target (settled t o)
+    by (inl g) = inl (g.0, g.1, each_append GoesOn o.ops (late_ops t o) g.2 first.goes)
+    by (inr g) = absurd (false_true (sym going ∙ g.0))
 
 -- The whole: where the last recorded operation ends its trace, the piece has ended too
 

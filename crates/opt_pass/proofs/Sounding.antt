@@ -34,7 +34,7 @@ use Rattle.opt_pass.specs.Contract.{GoesOn, IsEnd, EndsWith}
 use Rattle.opt_pass.specs.Inputs.{HasInputs}
 use Rattle.opt_pass.specs.Starting.{numbered_from}
 use Rattle.opt_pass.specs.Rising.{Pairs}
-use Rattle.opt_pass.specs.Forming.{IsDefined, FitsTarget, IsOpFormed, AreFormed, Forms}
+use Rattle.opt_pass.specs.Forming.{IsDefined, FitsTarget, IsOpFormed, AreFormed}
 use Rattle.opt_pass.proofs.Snapping.{flat_both, no_more, contains_had, distinct_once}
 use Rattle.opt_pass.proofs.Rising.{pairs_tested, pairs_paired, apart_once}
 
@@ -163,12 +163,12 @@ fits_preamble labels to target h (opt.Jump q args) f = λ pre. by pre
 -- The whole
 
 pub is_formed : (set : TraceSet) (labels : PieceId → Option (List BoxId)) (id to : PieceId) (target : List BoxId) (items : List BoxId) (o : Pass) (tr : Trace) → slice_get set.traces id.trace ≡ Some tr
-    → o.to ≡ to → o.target ≡ target → Forms set (numbered_from items 0) o → EndsWith to target o.at_end o.ops → AllByRecursion (λ g. g < guards_in tr) (flat_map guards_of o.ops) → IsOnce (flat_map guards_of o.ops) → Pairs false o.ops false
+    → o.to ≡ to → o.target ≡ target → AreFormed set.table o.to o.target (numbered_from items 0) o.ops → EndsWith to target o.at_end o.ops → AllByRecursion (λ g. g < guards_in tr) (flat_map guards_of o.ops) → IsOnce (flat_map guards_of o.ops) → Pairs false o.ops false
     → HasInputs labels to target → IsFormed set labels (record { id = id; label = numbered_from items 0; ops = o.ops })
 is_formed set labels id to target items o tr at aim there forms ends guards once pairs inputs =
     let t : Table = set.table in
     let label : List BoxId = numbered_from items 0 in
-    let ops : AreFormed t to target label o.ops = subst (λ z. AreFormed t z target label o.ops) aim (subst (λ z. AreFormed t o.to z label o.ops) there forms.ops) in
+    let ops : AreFormed t to target label o.ops = subst (λ z. AreFormed t z target label o.ops) aim (subst (λ z. AreFormed t o.to z label o.ops) there forms) in
     let numbers : AreNumbered (label ++ flat_map results_of o.ops) = numbers_all t to target label o.ops (numbers_from items 0) ops in
     record {
       boxes_distinct = numbered_distinct (label ++ flat_map results_of o.ops) numbers;

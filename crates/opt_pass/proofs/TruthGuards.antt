@@ -367,6 +367,7 @@ keeps_upgraded op o new going is no_exception ops guards frame ended next guard 
   counted = omega (arith, guard);
   checked = λ s. false_set op is s;
   printed = prints_guard op o new going ops guards (ended ∙ going, frame.at_end) is no_exception guard;
+  rests = frame.rests;
   to = frame.to;
   target = frame.target;
   forms = form;
@@ -377,7 +378,7 @@ keeps_upgraded op o new going is no_exception ops guards frame ended next guard 
 pub keeps_noted : (op : Op) (o new : Pass) (args : List Arg) (frames : List Frame) → o.ended ≡ false → IsTruth op.code → IsFew args → args ≡ args_of o op.args → frames ≡ op.snapshot → IsKeptNoted o new op.code args frames → KeepsAll op o new
 keeps_noted op o new args frames going is few ea ef kept =
     let k : IsKeptNoted o new op.code (args_of o op.args) op.snapshot = subst (λ z. IsKeptNoted o new op.code z op.snapshot) ea (subst (IsKeptNoted o new op.code args) ef kept) in
-    keeps_upgraded op o new going (truth_tested op.code is) (truth_no_exception op.code is) (ap (λ (z : Pass). z.ops) k.rest) (ap (λ (z : Pass). z.guards) k.rest) (framed o new (record (kept_at o op.code (args_of o op.args) op.snapshot) { passed = new.passed }) k.rest (record { at_end = refl; to = refl; target = refl })) (ap (λ (z : Pass). z.ended) k.rest) (ap (λ (z : Pass). z.next) k.rest) (ap (λ (z : Pass). z.guard) k.rest) (ap (λ (z : Pass). z.names) k.rest) (keeps_form_noted op o new (truth_tested op.code is) k) (keeps_pool_noted op o new (args_of o op.args) k)
+    keeps_upgraded op o new going (truth_tested op.code is) (truth_no_exception op.code is) (ap (λ (z : Pass). z.ops) k.rest) (ap (λ (z : Pass). z.guards) k.rest) (framed o new (record (kept_at o op.code (args_of o op.args) op.snapshot) { passed = new.passed }) k.rest (record { at_end = refl; to = refl; target = refl; rests = record { virtuals = refl; cache = refl; held = refl } })) (ap (λ (z : Pass). z.ended) k.rest) (ap (λ (z : Pass). z.next) k.rest) (ap (λ (z : Pass). z.guard) k.rest) (ap (λ (z : Pass). z.names) k.rest) (keeps_form_noted op o new (truth_tested op.code is) k) (keeps_pool_noted op o new (args_of o op.args) k)
     (λ laws t r p q g s. subst (λ z. Stands t z r q) (sym k.rest) (stands_passed laws t (kept_at o op.code (args_of o op.args) op.snapshot) r q s op.code (args_of o op.args) k.value new.passed (subst IsFew ea few) k.noted (has_passed q op.code (args_of o op.args) is (gone_here p q op.code (args_of o op.args) g))))
 
 zero_only : (us : List Value) → is_zero_word us ≡ Some true → us ≡ v.Int (pos 0) ∷ []
@@ -423,7 +424,7 @@ pub keeps_zero : (op : Op) (o mid new : Pass) (args : List Arg) (frames : List F
 keeps_zero op o mid new args frames b going is few ea only ef kept n =
     let truth : IsTruth op.code = (false, is) in
     let k : IsKeptNoted o mid op.code (args_of o op.args) op.snapshot = subst (λ z. IsKeptNoted o mid op.code z op.snapshot) ea (subst (IsKeptNoted o mid op.code args) ef kept) in
-    keeps_upgraded op o new going (truth_tested op.code truth) (truth_no_exception op.code truth) (ap (λ (z : Pass). z.ops) n ∙ ap (λ (z : Pass). z.ops) k.rest) (ap (λ (z : Pass). z.guards) n ∙ ap (λ (z : Pass). z.guards) k.rest) (framed o new (standing_for mid b (arg.Const (pos 0))) n (record { at_end = ap (λ (z : Pass). z.at_end) k.rest; to = ap (λ (z : Pass). z.to) k.rest; target = ap (λ (z : Pass). z.target) k.rest })) (ap (λ (z : Pass). z.ended) n ∙ ap (λ (z : Pass). z.ended) k.rest) (ap (λ (z : Pass). z.next) n ∙ ap (λ (z : Pass). z.next) k.rest) (ap (λ (z : Pass). z.guard) n ∙ ap (λ (z : Pass). z.guard) k.rest) (ap (λ (z : Pass). z.names) n ∙ ap (λ (z : Pass). z.names) k.rest) (keeps_form_zero op o mid new b is k (sym ea ∙ only_is args b only) n) (keeps_pool_zero op o mid new b (arg.Const (pos 0)) (args_of o op.args) k n)
+    keeps_upgraded op o new going (truth_tested op.code truth) (truth_no_exception op.code truth) (ap (λ (z : Pass). z.ops) n ∙ ap (λ (z : Pass). z.ops) k.rest) (ap (λ (z : Pass). z.guards) n ∙ ap (λ (z : Pass). z.guards) k.rest) (framed o new (standing_for mid b (arg.Const (pos 0))) n (record { at_end = ap (λ (z : Pass). z.at_end) k.rest; to = ap (λ (z : Pass). z.to) k.rest; target = ap (λ (z : Pass). z.target) k.rest; rests = record { virtuals = ap (λ (z : Pass). z.virtuals) k.rest; cache = ap (λ (z : Pass). z.cache) k.rest; held = ap (λ (z : Pass). z.held) k.rest } })) (ap (λ (z : Pass). z.ended) n ∙ ap (λ (z : Pass). z.ended) k.rest) (ap (λ (z : Pass). z.next) n ∙ ap (λ (z : Pass). z.next) k.rest) (ap (λ (z : Pass). z.guard) n ∙ ap (λ (z : Pass). z.guard) k.rest) (ap (λ (z : Pass). z.names) n ∙ ap (λ (z : Pass). z.names) k.rest) (keeps_form_zero op o mid new b is k (sym ea ∙ only_is args b only) n) (keeps_pool_zero op o mid new b (arg.Const (pos 0)) (args_of o op.args) k n)
     (λ laws t r p q g s.
     let here = gone_here p q op.code (args_of o op.args) g in
     let one : Stands t mid r q = subst (λ z. Stands t z r q) (sym k.rest) (stands_passed laws t (kept_at o op.code (args_of o op.args) op.snapshot) r q s op.code (args_of o op.args) k.value mid.passed (subst IsFew ea few) k.noted (has_passed q op.code (args_of o op.args) truth here)) in

@@ -118,7 +118,7 @@ pub keeps_pinned : (op : Op) (o mid new : Pass) (args : List Arg) (frames : List
 keeps_pinned op o mid new args frames b c going is ea only ef kept n =
     let k : mid ≡ kept_at o op.code (args_of o op.args) op.snapshot = kept ∙ ap (kept_at o op.code args) ef ∙ ap (λ z. kept_at o op.code z op.snapshot) ea in
     let whole : new ≡ standing_for (kept_at o op.code (args_of o op.args) op.snapshot) b c = n ∙ ap (λ z. standing_for z b c) k in
-    keeps_upgraded op o new going (inl (ap part_of is)) (value_no_exception op.code is) (ap (λ (z : Pass). z.ops) whole) (ap (λ (z : Pass). z.guards) whole) (framed o new (standing_for (kept_at o op.code (args_of o op.args) op.snapshot) b c) whole (record { at_end = refl; to = refl; target = refl })) (ap (λ (z : Pass). z.ended) whole) (ap (λ (z : Pass). z.next) whole) (ap (λ (z : Pass). z.guard) whole) (ap (λ (z : Pass). z.names) whole) (keeps_form_pinned op o new b c is (sym ea ∙ only) whole) (keeps_pool_pinned op o new b c (args_of o op.args) whole)
+    keeps_upgraded op o new going (inl (ap part_of is)) (value_no_exception op.code is) (ap (λ (z : Pass). z.ops) whole) (ap (λ (z : Pass). z.guards) whole) (framed o new (standing_for (kept_at o op.code (args_of o op.args) op.snapshot) b c) whole (record { at_end = refl; to = refl; target = refl; rests = record { virtuals = refl; cache = refl; held = refl } })) (ap (λ (z : Pass). z.ended) whole) (ap (λ (z : Pass). z.next) whole) (ap (λ (z : Pass). z.guard) whole) (ap (λ (z : Pass). z.names) whole) (keeps_form_pinned op o new b c is (sym ea ∙ only) whole) (keeps_pool_pinned op o new b c (args_of o op.args) whole)
     (λ laws t r p q g s.
     let here = gone_here p q op.code (args_of o op.args) g in
     let value = pinned_value (value_in q.boxes) b c here.1 (ap (opt_values q) (sym only ∙ ea) ∙ here.2) (sym (ap (λ z. passes z (args_of o op.args) here.1 q.world) is) ∙ here.3) in

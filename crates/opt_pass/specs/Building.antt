@@ -1,5 +1,5 @@
--- The piece so far, formed, with its guards and its pairs.
-use Rattle.std.specs.Prelude.{◌≡◌, ℕ, ◌<◌, ◌≤◌, Bool, true, false, List, [], ◌∷◌, ◌++◌, Some, length, map, take, slice_get, IsSome}
+-- What the rules of a lawful set say of the operations of a trace.
+use Rattle.std.specs.Prelude.{◌≡◌, ℕ, List, ◌++◌, Some, map, take, slice_get}
 use Rattle.std.specs.Option.{option_to_list}
 use Rattle.std.specs.List.{AllByRecursion, flat_map, count_by}
 use Rattle.trace_ops.specs.declared.trace.BoxId.{BoxId}
@@ -10,14 +10,10 @@ use Rattle.trace_ops.specs.Classes.{is_guard, reads_overflow}
 use Rattle.trace_ops.specs.InRange.{IsTableInRange}
 use Rattle.trace_ops.specs.Kinds.{kind_of_val}
 use Rattle.trace_ops.specs.Lawful.{IsLawful}
-use Rattle.trace_ops.specs.Pieces.{guards_of}
 use Rattle.trace_ops.specs.Rules.{boxes_in}
-use Rattle.lists.specs.Has.{Has, IsOnce}
-use Rattle.opt_pass.specs.Recording.{HaveSlots}
-use Rattle.opt_pass.specs.declared.state.Pass.{Pass}
-use Rattle.opt_pass.specs.Tables.{name_in}
-use Rattle.opt_pass.specs.Rising.{Pairs, sets_behind}
-use Rattle.opt_pass.specs.Forming.{Forms, IsRuled}
+use Rattle.lists.specs.Has.{Has}
+use Rattle.opt_pass.specs.Rising.{sets_behind}
+use Rattle.opt_pass.specs.Forming.{IsRuled}
 
 -- the inputs, and the results of operations
 abbrev pub given_by : List BoxId → List Op → List BoxId
@@ -35,16 +31,3 @@ pub record AreRuled (set : TraceSet) (inputs : List BoxId) (e : Entry) (ops : Li
   pub ruled : AllByRecursion (IsRuled set.table) ops
   pub scoped : (k : ℕ) (op : Op) → slice_get ops k ≡ Some op → AllByRecursion (Has (given_by inputs (take k ops))) (boxes_in op)
   pub tested : (k : ℕ) (op : Op) → slice_get ops k ≡ Some op → reads_overflow op.code ≡ sets_behind (take k ops)
-
--- after so many operations
-pub record Built (set : TraceSet) (label inputs : List BoxId) (ops : List Op) (n : ℕ) (o : Pass) : Type 0 where
-  pub forms : Forms set label o
-  pub named : o.ended ≡ false → (b : BoxId) → Has (given_by inputs (take n ops)) b → IsSome (name_in o.names b)
-  pub guards : AllByRecursion (λ g. g < guards_in (take n ops)) (flat_map guards_of o.ops)
-  pub once : IsOnce (flat_map guards_of o.ops)
-  pub slots : HaveSlots ops o.guards
-  pub guard : o.ended ≡ false → o.guard ≡ guards_in (take n ops)
-  pub last : Bool
-  pub pairs : Pairs false o.ops last
-  pub goes : o.ended ≡ false → last ≡ sets_behind (take n ops)
-  pub ends : o.ended ≡ true → last ≡ false

@@ -20,7 +20,7 @@ use Rattle.trace_ops.specs.declared.piece.OptOp.TheVariants as opt
 use Rattle.trace_ops.specs.declared.piece.Snapshot.{Snapshot}
 use Rattle.trace_ops.specs.Facts.{part_of}
 use Rattle.trace_ops.specs.Kinds.{kind_of_arg}
-use Rattle.trace_ops.specs.Lawful.{AreDistinct, IsNumbered, IsShapeLawful}
+use Rattle.trace_ops.specs.Lawful.{AreDistinct, IsNumbered, IsShapeLawful, IsLawful}
 use Rattle.trace_ops.specs.declared.piece.Shape.{Shape}
 use Rattle.trace_ops.specs.declared.piece.Pending.{Pending}
 use Rattle.trace_meaning.specs.Objects.{fields_of}
@@ -41,7 +41,7 @@ use Rattle.opt_pass.specs.State.{opt_frame}
 use Rattle.opt_pass.specs.Recording.{HaveSlots}
 pub use Rattle.opt_pass.specs.Ruling.{HasKind, EndsRightly}
 use Rattle.opt_pass.specs.Rising.{counted, Pairs, IsPairOf}
-use Rattle.opt_pass.specs.Forming.{Forms, KeepsForm, KeepsNames}
+use Rattle.opt_pass.specs.Forming.{AreFormed, KeepsForm, KeepsNames}
 use Rattle.opt_pass.specs.Building.{guards_in, AreRuled}
 use Rattle.opt_pass.specs.Pooling.{KeepsPool, HasPool}
 use Rattle.trace_ops.specs.declared.trace.TraceSet.{TraceSet}
@@ -147,6 +147,12 @@ pub record Printed (op : Op) (old new : Pass) : Type 0 where
   pub numbered : length (flat_map guards_of more) ≤ counted (is_guard op.code)
   pub pairs : IsPairOf op.code more
 
+-- what is virtual, and what is pending, stays so
+pub record Rests (old new : Pass) : Type 0 where
+  pub virtuals : new.virtuals ≡ old.virtuals
+  pub cache : new.cache ≡ old.cache
+  pub held : new.held ≡ old.held
+
 -- of every lawful table; and each operation makes at most one box, and is at most one guard
 pub record KeepsAll (op : Op) (old new : Pass) : Type 0 where
   pub each : Laws → (t : Table) → AreDistinct old.target → IsRight t old.target op → IsCheckedAt (part_of op.code) old → Keeps t op old new
@@ -154,6 +160,7 @@ pub record KeepsAll (op : Op) (old new : Pass) : Type 0 where
   pub counted : new.guard ≤ old.guard + 1
   pub checked : sets_overflow (part_of op.code) ≡ true → new.checked ≡ true
   pub printed : Printed op old new
+  pub rests : Rests old new
   pub to : new.to ≡ old.to
   pub target : new.target ≡ old.target
   pub forms : KeepsForm op old new
@@ -227,7 +234,9 @@ pub record Shows (to : PieceId) (target : List BoxId) (e : Entry) (ops : List Op
 pub record IsBuilt (set : TraceSet) (to : PieceId) (target label : List BoxId) (ops : List Op) (o : Pass) : Type 0 where
   pub aim : o.to ≡ to
   pub inputs : o.target ≡ target
-  pub forms : Forms set label o
+  pub formed : AreFormed set.table o.to o.target label o.ops
+  pub bridges : AllByRecursion (λ x. IsLawful set x.1) o.guards
+  pub at_end : IsLawful set o.at_end
   pub guards : AllByRecursion (λ g. g < guards_in ops) (flat_map guards_of o.ops)
   pub once : IsOnce (flat_map guards_of o.ops)
   pub slots : HaveSlots ops o.guards

@@ -7,7 +7,7 @@ use Rattle.agreement.specs.Renaming.{RenamesAgree, EntryStarts, CallsAreSame}
 use Rattle.agreement.specs.Performs.{PerformsAgree, OverflowsAlike}
 use Rattle.agreement.specs.Guarding.{PassesAlike}
 use Rattle.agreement.specs.Entering.{GuardAdmits, PlainAdmits}
-use Rattle.agreement.specs.Making.{BytesAgree, MakeAgrees}
+use Rattle.agreement.specs.Making.{NewVirtualAgrees, BytesAgree, MakeAgrees}
 use Rattle.agreement.specs.Writing.{FlushesAgree}
 use Rattle.agreement.specs.Spots.{ShapesHaveSpots}
 
@@ -28,6 +28,7 @@ pub record Laws : Type 0 where
   pub guard_admits : GuardAdmits
   pub plain_admits : PlainAdmits
   pub bytes_agree : BytesAgree
+  pub new_virtual_agrees : NewVirtualAgrees
   pub make_agrees : MakeAgrees
   pub flushes_agree : FlushesAgree
   pub shapes_have_spots : ShapesHaveSpots

@@ -14,3 +14,5 @@ pub mod Inputs
 pub mod Counting
 pub mod Pooling
 pub mod Recording
+pub mod Late
+pub mod Virtual

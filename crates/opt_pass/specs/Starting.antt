@@ -140,9 +140,13 @@ storing_at (spot.Item a i) base value = opt.Plain code.SetarrayitemGc None (base
 abbrev pub storing : Pending → OptOp
 storing p = storing_at p.spot p.base (known_arg p.value)
 
+-- what makes virtual objects and does stores
+abbrev pub objects_ops : Table → Entering → List Pending → List Shape → List OptOp
+objects_ops t n ps ss = makings t n.label 0 ss ++ map storing (map (entered_store n) ps ++ all_fills t n 0 ss)
+
 -- what makes all of it: its cost is that of the entry
 abbrev pub entry_ops : Table → Entry → List OptOp
-entry_ops t e = makings t (length e.label) 0 e.shapes ++ map storing (stores_entered t e)
+entry_ops t e = objects_ops t (entering e) e.pending e.shapes
 
 -- The start
 
@@ -158,6 +162,7 @@ started t inputs to target e = record {
   forward = [];
   cache = empty;
   virtuals = [];
+  held = [];
   known = [];
   passed = [];
   next = length e.label + length e.shapes;

@@ -4,7 +4,9 @@
 mod entries;
 mod laws;
 mod names;
+mod objects;
 mod pass;
+mod settle;
 mod snapshot;
 mod start;
 mod state;

@@ -16,8 +16,12 @@ ghost use Rattle.opt_pass.specs.Counting.{AddsFewConstants};
 ghost use Rattle.opt_pass.specs.Inputs.{HasInputs, AreLawful};
 ghost use Rattle.opt_pass.specs.Recording.{HaveSlots, JumpsWithTrace};
 ghost use Rattle.opt_pass.specs.Keeping.{KeepsAll, IsDone};
+ghost use Rattle.opt_pass.specs.Late.{shapes_now, IsStep};
+ghost use Rattle.opt_pass.specs.Virtual.{MakesStructure};
 
 use crate::laws::laws_hold;
+use crate::objects::{new_op, size_kinds, structure};
+use crate::settle::ready;
 use crate::start::{label_of, start};
 use crate::state::Pass;
 use crate::steps::{dropped_guard, finish_op, jump_op, kept_guard, plain_op};
@@ -78,6 +82,51 @@ fn record_op(pass: &mut Pass, alloc: Global, op: &Op) -> Result<(), AllocError>
     }
 }
 
+// All is settled, and then the operation is handled.
+fn handle(pass: &mut Pass, alloc: Global, table: &Table, op: &Op) -> Result<(), AllocError>
+    requires going { pass.old.ended ≡ false }
+    requires boxes { pass.old.next + length (shapes_now pass.old) + 1 < 2 ^ 32 }
+    requires guards { pass.old.guard + 1 < 2 ^ 32 }
+    ensures { OnOk result (IsStep table.now op.now pass.old pass.new) }
+{
+    ready(pass, alloc, table, op)?;
+    record_op(pass, alloc, op)
+}
+
+fn structure_op(
+    pass: &mut Pass,
+    alloc: Global,
+    table: &Table,
+    op: &Op,
+    of: BoxId,
+    size: u32,
+) -> Result<(), AllocError>
+    requires going { pass.old.ended ≡ false }
+    requires boxes { pass.old.next + length (shapes_now pass.old) + 1 < 2 ^ 32 }
+    requires guards { pass.old.guard + 1 < 2 ^ 32 }
+    requires virtuals { length pass.old.virtuals + 1 < 2 ^ 32 }
+    requires makes { MakesStructure op.now of size }
+    ensures { OnOk result (IsStep table.now op.now pass.old pass.new) }
+{
+    match size_kinds(alloc, table, size)? {
+        Some(kinds) => new_op(pass, table, op, of, size, kinds),
+        None => handle(pass, alloc, table, op),
+    }
+}
+
+fn step(pass: &mut Pass, alloc: Global, table: &Table, op: &Op) -> Result<(), AllocError>
+    requires going { pass.old.ended ≡ false }
+    requires boxes { pass.old.next + length (shapes_now pass.old) + 1 < 2 ^ 32 }
+    requires guards { pass.old.guard + 1 < 2 ^ 32 }
+    requires virtuals { length pass.old.virtuals + 1 < 2 ^ 32 }
+    ensures { OnOk result (IsStep table.now op.now pass.old pass.new) }
+{
+    match structure(op) {
+        Some((of, size)) => structure_op(pass, alloc, table, op, of, size),
+        None => handle(pass, alloc, table, op),
+    }
+}
+
 // What the operations become, from each pair that the entry admits.
 fn optimise_ops(
     alloc: Global,
@@ -96,7 +145,7 @@ fn optimise_ops(
         if pass.ended {
             return Ok(pass);
         }
-        record_op(&mut pass, alloc, op)?;
+        step(&mut pass, alloc, table, op)?;
     }
     Ok(pass)
 }

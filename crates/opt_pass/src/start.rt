@@ -7,7 +7,7 @@ ghost use Rattle.opt_pass.specs.Starting.{numbered_from, with_names, renaming, r
 use crate::entries::unknown;
 use crate::names::Names;
 use crate::state::Pass;
-use crate::stores::entry_operations;
+use crate::stores::print_objects;
 use box_forward::Pure;
 use heap_cache::Cache;
 use std::alloc::{AllocError, Global};
@@ -181,7 +181,15 @@ fn begin(
 {
     let entering = entering_of(alloc, entry)?;
     let names = named_by(alloc, &entering, inputs, entry.values.items())?;
-    let ops = entry_operations(alloc, table, &entering, entry)?;
+    let mut ops = List::of(Vec::new(alloc));
+    print_objects(
+        &mut ops,
+        alloc,
+        table,
+        &entering,
+        entry.pending.items(),
+        entry.shapes.items(),
+    )?;
     Ok(Beginning {
         names,
         ops,
@@ -191,7 +199,7 @@ fn begin(
 
 // A pass that has begun so.
 fn begun(alloc: Global, to: PieceId, blank: Blank, beginning: Beginning) -> Pass
-    ensures { result ≡ record { to = to; target = blank.target; names = beginning.names; forward = []; cache = blank.cache; virtuals = blank.virtuals; known = blank.known; passed = blank.passed; next = beginning.next; ops = beginning.ops; guards = []; guard = 0; checked = false; ended = false; at_end = plain_entry [] } }
+    ensures { result ≡ record { to = to; target = blank.target; names = beginning.names; forward = []; cache = blank.cache; virtuals = blank.virtuals; held = []; known = blank.known; passed = blank.passed; next = beginning.next; ops = beginning.ops; guards = []; guard = 0; checked = false; ended = false; at_end = plain_entry [] } }
 {
     let Blank {
         target,
@@ -208,6 +216,7 @@ fn begun(alloc: Global, to: PieceId, blank: Blank, beginning: Beginning) -> Pass
         forward: Names::new(alloc),
         cache,
         virtuals,
+        held: List::of(Vec::new(alloc)),
         known,
         passed,
         next,

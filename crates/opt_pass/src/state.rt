@@ -26,8 +26,9 @@ pub struct Pass {
     pub forward: Names,
     /// What is known of the heap, and the stores that are still to be done.
     pub cache: Cache,
-    /// The virtual objects.
+    /// The virtual objects, and the recorded boxes that may be named by one.
     pub virtuals: Virtuals,
+    pub held: List<BoxId>,
     /// The pure operations that are known.
     pub known: Pure,
     /// The guards that have passed.

@@ -3,13 +3,12 @@ ghost use Rattle.std.specs.Prelude.{◌≡◌, ℕ, ◌+◌, ◌<◌, ◌≤◌,
 ghost use Rattle.agreement.specs.Making.{is_zero};
 ghost use Rattle.agreement.specs.Spots.{items_from, spots_of};
 ghost use Rattle.trace_meaning.specs.Objects.{fields_of};
-ghost use Rattle.opt_pass.specs.Starting.{field_spot, item_at, structure_code, vtable_code, making, makings, fill, fills, fills_of, all_fills, entered_store, entered_val, known_arg, storing_at, storing, entry_ops, entering as entering_of};
+ghost use Rattle.opt_pass.specs.Starting.{field_spot, item_at, structure_code, vtable_code, making, makings, fill, fills, fills_of, all_fills, entered_store, entered_val, known_arg, storing_at, storing, objects_ops};
 
 use crate::start::{Entering, arg_in, made_of, value_in};
 use std::alloc::{AllocError, Global};
 use trace_ops::{
-    Arg, BoxId, Descr, Entry, List, OpCode, OptOp, Pending, Shape, ShapeOf, Spot, Table, Text, Val,
-    Word,
+    Arg, BoxId, Descr, List, OpCode, OptOp, Pending, Shape, ShapeOf, Spot, Table, Text, Val, Word,
 };
 
 fn code_with(vtable: Option<Text>) -> OpCode
@@ -59,14 +58,14 @@ fn make(
 }
 
 fn add_makes(
-    out: &mut Vec<OptOp>,
+    out: &mut List<OptOp>,
     alloc: Global,
     table: &Table,
     label: u32,
     shapes: &[Shape],
 ) -> Result<(), AllocError>
     requires { label + length shapes.now < 2 ^ 32 }
-    ensures { OnOk result (out.new.items ≡ out.old.items ++ makings table.now label 0 shapes.now) }
+    ensures { OnOk result (out.new ≡ out.old ++ makings table.now label 0 shapes.now) }
 {
     for k in 0..shapes.len() {
         let made = make(
@@ -270,8 +269,8 @@ fn store_at(alloc: Global, spot: Spot, base: Arg, value: Arg) -> Result<OptOp, A
     }
 }
 
-fn print_stores(out: &mut Vec<OptOp>, alloc: Global, stores: &[Pending]) -> Result<(), AllocError>
-    ensures { OnOk result (out.new.items ≡ out.old.items ++ map storing stores.now) }
+fn print_stores(out: &mut List<OptOp>, alloc: Global, stores: &[Pending]) -> Result<(), AllocError>
+    ensures { OnOk result (out.new ≡ out.old ++ map storing stores.now) }
 {
     for store in stores {
         let made = store_at(alloc, store.spot, store.base, known(store.value))?;
@@ -280,22 +279,22 @@ fn print_stores(out: &mut Vec<OptOp>, alloc: Global, stores: &[Pending]) -> Resu
     Ok(())
 }
 
-/// What makes the virtual objects of the entry and does its stores.
-pub fn entry_operations(
+/// What makes virtual objects and does stores, behind what is there.
+pub fn print_objects(
+    out: &mut List<OptOp>,
     alloc: Global,
     table: &Table,
     entering: &Entering,
-    entry: &Entry,
-) -> Result<List<OptOp>, AllocError>
-    requires entering { entering.now ≡ entering_of entry.now }
-    requires room { length entry.now.label + length entry.now.shapes < 2 ^ 32 }
-    ensures { IfOk result (λ r. r ≡ entry_ops table.now entry.now) }
+    pending: &[Pending],
+    shapes: &[Shape],
+) -> Result<(), AllocError>
+    requires few { length shapes.now ≡ entering.now.shapes }
+    requires room { entering.now.label + entering.now.shapes < 2 ^ 32 }
+    ensures { OnOk result (out.new ≡ out.old ++ objects_ops table.now entering.now pending.now shapes.now) }
 {
     let mut stores = Vec::new(alloc);
-    add_stores(&mut stores, entering, entry.pending.items())?;
-    add_shapes(&mut stores, alloc, table, entering, entry.shapes.items())?;
-    let mut out = Vec::new(alloc);
-    add_makes(&mut out, alloc, table, entering.label, entry.shapes.items())?;
-    print_stores(&mut out, alloc, &stores)?;
-    Ok(List::of(out))
+    add_stores(&mut stores, entering, pending)?;
+    add_shapes(&mut stores, alloc, table, entering, shapes)?;
+    add_makes(out, alloc, table, entering.label, shapes)?;
+    print_stores(out, alloc, &stores)
 }

@@ -60,6 +60,13 @@ impl Virtuals {
         })
     }
 
+    /// The shapes by number; none of one that was forced.
+    pub fn shapes(&self) -> &[Option<Shape>]
+        ensures { result.now ≡ self.now }
+    {
+        self.shapes.as_slice()
+    }
+
     /// A virtual object with a part of each kind, 0 or NULL; its number. Fewer than 2^32 - 1 were made before. More than
     /// 2^32 - 1 parts are refused as a want of memory.
     pub fn make(&mut self, of: ShapeOf, kinds: &[Kind]) -> Result<u32, AllocError>

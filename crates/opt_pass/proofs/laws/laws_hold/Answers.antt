@@ -18,6 +18,7 @@ returns c = record {
   guard_admits = c.guard_admits.ensures;
   plain_admits = c.plain_admits.ensures;
   bytes_agree = c.bytes_agree.ensures;
+  new_virtual_agrees = c.new_virtual_agrees.ensures;
   make_agrees = c.make_agrees.ensures;
   flushes_agree = c.flushes_agree.ensures;
   shapes_have_spots = c.shapes_have_spots.ensures;

@@ -11,7 +11,7 @@ returns-then-pass c =
     reached_end _ _ _ _ _ _ _ _ c.loop-op.invariant few c.if-pass.true
 
 pub loop-op-preserved : goal.loop-op-preserved
-loop-op-preserved c = reached_more _ _ _ _ _ _ _ c.op-item.result _ _ c.loop-op-test.true c.op-item.is c.loop-op.invariant c.in_ok-record_op.ensures
+loop-op-preserved c = reached_more _ _ _ _ _ _ _ c.op-item.result _ _ c.loop-op-test.true c.op-item.is c.loop-op.invariant c.in_ok-step.ensures
 
 pub returns : goal.returns
 returns c =

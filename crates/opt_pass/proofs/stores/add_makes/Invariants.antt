@@ -3,4 +3,4 @@ use Rattle.opt_pass.specs.Starting.{makings}
 use Rattle.opt_pass.proofs.stores.add_makes.Given as goal
 
 abbrev pub invariant-loop-k : goal.invariant-loop-k
-invariant-loop-k l = l.out.items ++ makings l.table l.label l.k (drop l.k l.shapes) ≡ l.initial.out.items ++ makings l.table l.label 0 l.shapes
+invariant-loop-k l = l.out ++ makings l.table l.label l.k (drop l.k l.shapes) ≡ l.initial.out ++ makings l.table l.label 0 l.shapes

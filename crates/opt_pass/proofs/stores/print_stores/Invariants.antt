@@ -3,4 +3,4 @@ use Rattle.opt_pass.specs.Starting.{storing}
 use Rattle.opt_pass.proofs.stores.print_stores.Given as goal
 
 abbrev pub invariant-loop-store : goal.invariant-loop-store
-invariant-loop-store l = l.out.items ++ map storing (drop l.store-index l.stores) ≡ l.initial.out.items ++ map storing l.stores
+invariant-loop-store l = l.out ++ map storing (drop l.store-index l.stores) ≡ l.initial.out ++ map storing l.stores

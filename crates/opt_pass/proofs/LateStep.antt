@@ -88,18 +88,20 @@ same_guards t ops n op old new split k =
     let zero : counted (is_guard op.code) ≡ 0 = ap (λ z. counted (guarding z)) k.part in
     omega (arith, count, one, zero)
 
-pub shown_late : (t : Table) (to : PieceId) (target : List BoxId) (e : Entry) (ops : List Op) (n : ℕ) (op : Op) (old new : Pass) → take (n + 1) ops ≡ take n ops ++ op ∷ [] → slice_get ops n ≡ Some op → Shown to target e ops n old → KeepsLate t op old new → Shown to target e ops (n + 1) new
-shown_late t to target e ops n op old new split at h k = record {
+pub shown_late : (t : Table) (to : PieceId) (target : List BoxId) (e : Entry) (ops : List Op) (n : ℕ) (op : Op) (old new : Pass) → take (n + 1) ops ≡ take n ops ++ op ∷ [] → slice_get ops n ≡ Some op → AreAllLive old → Shown to target e ops n old → KeepsLate t op old new → Shown to target e ops (n + 1) new
+shown_late t to target e ops n op old new split at live h k = record {
   entries = subst (λ (z : Pass). HasEntries z.ops z.guards) (sym k.same) h.entries;
   small =
       let one : sum_by own_size new.ops ≡ sum_by own_size old.ops = ap (λ (z : Pass). sum_by own_size z.ops) k.same in
       let two : weight_from (take (n + 1) ops) ≡ weight_from (take n ops) + weight_from (op ∷ []) = ap weight_from split ∙ sum_by-append (λ (x : Op). 1 + length x.args) (take n ops) (op ∷ []) in
       let own : weight_from (op ∷ []) ≡ (1 + length op.args) + 0 = sum_by-cons (λ (x : Op). 1 + length x.args) op [] in
-      omega (arith, one, two, own, h.small, k.cost);
+      let cost : late_cost new ≤ late_cost old + (1 + length op.args) = k.cost live in
+      omega (arith, one, two, own, h.small, cost);
   ending = subst (Ending to target) (sym k.same) h.ending;
   boxes =
       let same : length (flat_map results_of new.ops) ≡ length (flat_map results_of old.ops) = ap (λ (z : Pass). length (flat_map results_of z.ops)) k.same in
-      omega (arith, same, h.boxes, k.grows);
+      let grows : length (live_in new.virtuals) ≤ length (live_in old.virtuals) + 1 = k.grows live in
+      omega (arith, same, h.boxes, grows);
   bare = subst (λ (z : Pass). IsBare z.at_end) (sym k.same) h.bare;
   held = subst (λ (z : Pass). AllByRecursion (λ x. IsBare x.1) z.guards) (sym k.same) h.held;
   guard = λ going. ap (λ (z : Pass). z.guard) k.same ∙ h.guard k.going ∙ same_guards t ops n op old new split k;

@@ -23,6 +23,8 @@ pub mod Readied
 pub mod Showing
 pub mod Loop
 pub mod NewObjects
+pub mod ReadParts
+pub mod WriteParts
 pub mod Lawful
 pub mod Pures
 pub mod PureArms

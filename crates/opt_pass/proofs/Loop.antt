@@ -206,7 +206,8 @@ reached_late t inputs to target e ops n op old new lt is h k = record {
       let same : new.next ≡ old.next = ap (λ (z : Pass). z.next) k.same in
       let one : length (shapes_now new) ≡ length (live_in new.virtuals) = live_long new in
       let two : length (shapes_now old) ≡ length (live_in old.virtuals) = live_long old in
-      omega (arith, same, one, two, h.boxes, k.grows);
+      let grows : length (live_in new.virtuals) ≤ length (live_in old.virtuals) + 1 = k.grows h.lives.all in
+      omega (arith, same, one, two, h.boxes, grows);
   count = omega (arith, h.count, k.count);
   guards = let same : new.guard ≡ old.guard = ap (λ (z : Pass). z.guard) k.same in omega (arith, same, h.guards);
   lives = record { all = k.live h.lives.all };
@@ -214,7 +215,7 @@ reached_late t inputs to target e ops n op old new lt is h k = record {
   checked = λ j q m at s. absurd (false_true (sym (ap sets_overflow k.part) ∙ there j q m at s));
   aim = ap (λ (z : Pass). z.to) k.same ∙ h.aim;
   inputs_there = ap (λ (z : Pass). z.target) k.same ∙ h.inputs_there;
-  shown = shown_late t to target e ops n op old new (next_taken ops n op lt is) (get_is ops n op lt is) h.shown k;
+  shown = shown_late t to target e ops n op old new (next_taken ops n op lt is) (get_is ops n op lt is) h.lives.all h.shown k;
   pool = λ laws. pool_more laws e (take n ops) (take (n + 1) ops) op old new (next_taken ops n op lt is) (h.pool laws) k.pool;
   built = λ laws right set same r.
       built_late laws t set (numbered_from e.label 0) inputs ops n op old new same (next_taken ops n op lt is)

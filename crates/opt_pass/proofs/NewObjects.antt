@@ -59,7 +59,9 @@ use Rattle.opt_pass.proofs.Bound.{name_same, name_other, agrees_named}
 use Rattle.opt_pass.proofs.Ends.{long_map}
 use Rattle.opt_pass.proofs.Beginning.{head_same, tail_same}
 use Rattle.opt_pass.proofs.Naming.{names_given}
-use Rattle.opt_pass.proofs.Pooled.{name_pooled}
+use Rattle.opt_pass.proofs.Pooled.{pools_more, name_pooled}
+use Rattle.opt_pass.specs.Pooling.{IsInVal, IsInShape, Pools}
+use Rattle.trace_ops.specs.declared.trace.Arg.{Arg}
 use Rattle.opt_pass.proofs.Whole.{begins_late}
 
 -- One more at the end of a list
@@ -322,6 +324,24 @@ new_step t op b size r vs m = ap (λ z. recorded_part z t op r vs) (new_part op.
     by (inl e) = result op.code ∙ ap (λ z. recorded_plain (Some b) r (perform t z (descr.Size size) op.args vs r.world)) e
     by (inr e) = result op.code ∙ ap (λ z. recorded_plain (Some b) r (perform t z (descr.Size size) op.args vs r.world)) e
 
+zero_pooled : (pool : List Arg) → Has pool (arg.Const (pos 0)) → Has pool arg.Null → (ks : List Kind) → AllByRecursion (IsInVal pool) (map zero_of ks)
+zero_pooled pool zero null [] = tt
+zero_pooled pool zero null (kind.Int ∷ ks) = ((zero, tt), zero_pooled pool zero null ks)
+zero_pooled pool zero null (kind.Ref ∷ ks) = ((null, tt), zero_pooled pool zero null ks)
+
+pools_virtual : (laws : Laws) (pool : List Arg) (o : Pass) (b : BoxId) (size : ℕ) (ks : List Kind) → Pools pool o → Pools (arg.Const (pos 0) ∷ pool) (made_virtual o b (fresh (shape.Size size) ks))
+pools_virtual laws pool o b size ks h =
+    let k : Pools (arg.Const (pos 0) ∷ pool) o = pools_more (arg.Const (pos 0) ∷ []) pool o h in
+    record {
+      null = k.null;
+      names = name_pooled laws (arg.Const (pos 0) ∷ pool) o.names b (Virtual (length o.virtuals)) tt k.names;
+      forward = k.forward;
+      parts = each_append (IsInShape (arg.Const (pos 0) ∷ pool)) o.virtuals (Some (fresh (shape.Size size) ks) ∷ []) k.parts (zero_pooled (arg.Const (pos 0) ∷ pool) (inl refl) k.null ks, tt);
+      guards = k.guards;
+      snapshots = k.snapshots;
+      at_end = k.at_end;
+    }
+
 pub keeps_new : (t : Table) (op : Op) (o new : Pass) (b : BoxId) (size : ℕ) (ks : List Kind) → o.ended ≡ false → MakesStructure op b size → AreKinds t size ks → new ≡ made_virtual o b (fresh (shape.Size size) ks) → KeepsLate t op o new
 keeps_new t op o new b size ks going m are e = subst (KeepsLate t op o) (sym e) (record {
   going = going;
@@ -330,10 +350,10 @@ keeps_new t op o new b size ks going m are e = subst (KeepsLate t op o) (sym e) 
   follows = λ laws r p h. by laws r p h (values_of r op.args);
   live = all_live_push o (fresh (shape.Size size) ks);
   count = let c : length (o.virtuals ++ Some (fresh (shape.Size size) ks) ∷ []) ≡ length o.virtuals + 1 = length-append o.virtuals (Some (fresh (shape.Size size) ks) ∷ []) in omega (arith, c);
-  grows = let c : length (live_in (o.virtuals ++ Some (fresh (shape.Size size) ks) ∷ [])) ≡ length (live_in o.virtuals) + 1 = ap length (live_push o.virtuals (fresh (shape.Size size) ks)) ∙ length-append (live_in o.virtuals) (fresh (shape.Size size) ks ∷ []) in omega (arith, c);
-  cost = let c : late_cost (made_virtual o b (fresh (shape.Size size) ks)) ≤ late_cost o + 1 = cost_virtual o b size ks in omega (arith, c);
+  grows = λ live. let c : length (live_in (o.virtuals ++ Some (fresh (shape.Size size) ks) ∷ [])) ≡ length (live_in o.virtuals) + 1 = ap length (live_push o.virtuals (fresh (shape.Size size) ks)) ∙ length-append (live_in o.virtuals) (fresh (shape.Size size) ks ∷ []) in omega (arith, c);
+  cost = λ live. let c : late_cost (made_virtual o b (fresh (shape.Size size) ks)) ≤ late_cost o + 1 = cost_virtual o b size ks in omega (arith, c);
   forms = λ laws set label same all ruled scoped h. forms_virtual laws t o b size ks are set label same all (some_same (sym (ap (option_map (λ (z : BoxId). z.kind)) m.result) ∙ ruled.gives ∙ new_gives op.code m.code)) h;
-  pool = λ laws pool args slots h. ([], omega arith, record { null = h.null; names = name_pooled laws pool o.names b (Virtual (length o.virtuals)) tt h.names; forward = h.forward; guards = h.guards; snapshots = h.snapshots; at_end = h.at_end });
+  pool = λ laws pool args slots h. (arg.Const (pos 0) ∷ [], omega arith, pools_virtual laws pool o b size ks h);
   names = λ laws. names_given laws op o (made_virtual o b (fresh (shape.Size size) ks)) b (Virtual (length o.virtuals)) m.result refl;
 })
   where

@@ -29,7 +29,8 @@ use Rattle.opt_pass.specs.Tables.{Names, name_in, with_name, known_or, followed,
 use Rattle.opt_pass.specs.State.{args_of, next_box, slot_val, opt_frame, snap_of, entry_at, with_giving, with_done, with_plain, with_jump, jump_frame, passed_in, with_body, with_finish, named_as, standing_for, skipped, kept_at, exited_at}
 use Rattle.opt_pass.specs.Words.{IsMadeNoted, IsKeptNoted}
 use Rattle.opt_pass.specs.Counting.{constants_of}
-use Rattle.opt_pass.specs.Pooling.{IsIn, IsInVal, Pools, KeepsPool}
+use Rattle.trace_ops.specs.declared.piece.Shape.{Shape}
+use Rattle.opt_pass.specs.Pooling.{IsInShape, IsIn, IsInVal, Pools, KeepsPool}
 use Rattle.opt_pass.proofs.Binding.{box_decides}
 use Rattle.opt_pass.proofs.Bound.{name_same, name_other}
 use Rattle.opt_pass.proofs.Snapping.{flat_both}
@@ -44,10 +45,15 @@ pools_more late pool o h = record {
   null = has_right late pool arg.Null h.null;
   names = λ b x e. all_more late pool (constants_in_val x) (h.names b x e);
   forward = λ b x e. all_more late pool (constants_in_val x) (h.forward b x e);
+  parts = each_weaker (IsInShape pool) (IsInShape (late ++ pool)) shape_more o.virtuals h.parts;
   guards = each_weaker (λ (x : ℕ × Entry). AllByRecursion (Has pool) (constants_of x.1)) (λ (x : ℕ × Entry). AllByRecursion (Has (late ++ pool)) (constants_of x.1)) (λ x k. all_more late pool (constants_of x.1) k) o.guards h.guards;
   snapshots = all_more late pool (flat_map constants_in (flat_map snapshots_of o.ops)) h.snapshots;
   at_end = all_more late pool (constants_of o.at_end) h.at_end;
 }
+  where
+    shape_more : (x : Option Shape) → IsInShape pool x → IsInShape (late ++ pool) x
+    shape_more None w = tt
+    shape_more (Some s) w = each_weaker (IsInVal pool) (IsInVal (late ++ pool)) (λ x k. all_more late pool (constants_in_val x) k) s.parts w
 
 pub all_own : (xs pool : List Arg) → AllByRecursion (Has (xs ++ pool)) xs
 all_own xs pool = each_has (Has (xs ++ pool)) xs (λ x w. has_left xs pool x w)
@@ -148,13 +154,14 @@ module _ (laws : Laws) (pool : List Arg) (o : Pass) (h : Pools pool o) where
     null = h.null;
     names = name_pooled laws pool o.names b (Known (arg.Of (next_box o b))) tt h.names;
     forward = h.forward;
+    parts = h.parts;
     guards = h.guards;
     snapshots = snaps_push pool o.ops (opt.Plain operation (Some (next_box o b)) args d) h.snapshots tt;
     at_end = h.at_end;
   }
 
   done_pools : (operation : OpCode) (args : List Arg) (d : Descr) → Pools pool (with_done o operation args d)
-  done_pools operation args d = record { null = h.null; names = h.names; forward = h.forward; guards = h.guards; snapshots = snaps_push pool o.ops (opt.Plain operation None args d) h.snapshots tt; at_end = h.at_end }
+  done_pools operation args d = record { null = h.null; names = h.names; forward = h.forward; parts = h.parts; guards = h.guards; snapshots = snaps_push pool o.ops (opt.Plain operation None args d) h.snapshots tt; at_end = h.at_end }
 
   plain_pools : (operation : OpCode) (to : Option BoxId) (args : List Arg) (d : Descr) → Pools pool (with_plain o operation to args d)
   plain_pools operation (Some b) args d = giving_pools operation b args d
@@ -165,6 +172,7 @@ module _ (laws : Laws) (pool : List Arg) (o : Pass) (h : Pools pool o) where
     null = h.null;
     names = h.names;
     forward = h.forward;
+    parts = h.parts;
     guards = each_append (λ (x : ℕ × Entry). AllByRecursion (Has pool) (constants_of x.1)) o.guards ((o.guard, entry_at (snap_of o.names o.forward frames)) ∷ []) h.guards (entry_pooled pool o.names o.forward h.null h.names h.forward frames k, tt);
     snapshots = snaps_push pool o.ops (opt.Guard operation args o.guard (snap_of o.names o.forward frames)) h.snapshots (each_append (Has pool) (constants_in (snap_of o.names o.forward frames)) [] (snap_pooled pool o.names o.forward h.null h.names h.forward frames k) tt);
     at_end = h.at_end;
@@ -175,16 +183,17 @@ module _ (laws : Laws) (pool : List Arg) (o : Pass) (h : Pools pool o) where
     null = h.null;
     names = h.names;
     forward = h.forward;
+    parts = h.parts;
     guards = each_append (λ (x : ℕ × Entry). AllByRecursion (Has pool) (constants_of x.1)) o.guards ((o.guard, entry_at (snap_of o.names o.forward frames)) ∷ []) h.guards (entry_pooled pool o.names o.forward h.null h.names h.forward frames k, tt);
     snapshots = snaps_push pool o.ops (opt.Exit o.guard (snap_of o.names o.forward frames)) h.snapshots (each_append (Has pool) (constants_in (snap_of o.names o.forward frames)) [] (snap_pooled pool o.names o.forward h.null h.names h.forward frames k) tt);
     at_end = h.at_end;
   }
 
   skipped_pools : Pools pool (skipped o)
-  skipped_pools = record { null = h.null; names = h.names; forward = h.forward; guards = h.guards; snapshots = h.snapshots; at_end = h.at_end }
+  skipped_pools = record { null = h.null; names = h.names; forward = h.forward; parts = h.parts; guards = h.guards; snapshots = h.snapshots; at_end = h.at_end }
 
   jump_pools : (args : List Arg) → Pools pool (with_jump o args)
-  jump_pools args = record { null = h.null; names = h.names; forward = h.forward; guards = h.guards; snapshots = snaps_push pool o.ops (opt.Jump o.to args) h.snapshots tt; at_end = let all : List Arg = flat_map constants_in_val (map (λ b. Known (arg.Of b)) o.target) in and_none pool ((all ++ []) ++ []) (and_none pool (all ++ []) (and_none pool all (none o.target))) }
+  jump_pools args = record { null = h.null; names = h.names; forward = h.forward; parts = h.parts; guards = h.guards; snapshots = snaps_push pool o.ops (opt.Jump o.to args) h.snapshots tt; at_end = let all : List Arg = flat_map constants_in_val (map (λ b. Known (arg.Of b)) o.target) in and_none pool ((all ++ []) ++ []) (and_none pool (all ++ []) (and_none pool all (none o.target))) }
     where
       none : (bs : List BoxId) → AllByRecursion (Has pool) (flat_map constants_in_val (map (λ b. Known (arg.Of b)) bs))
       none [] = tt
@@ -195,26 +204,27 @@ module _ (laws : Laws) (pool : List Arg) (o : Pass) (h : Pools pool o) where
     null = h.null;
     names = h.names;
     forward = h.forward;
+    parts = h.parts;
     guards = h.guards;
     snapshots = snaps_push pool o.ops (opt.Jump o.to _) h.snapshots tt;
     at_end = entry_pooled pool o.names o.forward h.null h.names h.forward (jump_frame args ∷ []) (each_append (IsIn pool) args [] k tt);
   }
 
   finish_pools : (value : Option Arg) → Pools pool (with_finish o value)
-  finish_pools value = record { null = h.null; names = h.names; forward = h.forward; guards = h.guards; snapshots = snaps_push pool o.ops (opt.Finish value) h.snapshots tt; at_end = h.at_end }
+  finish_pools value = record { null = h.null; names = h.names; forward = h.forward; parts = h.parts; guards = h.guards; snapshots = snaps_push pool o.ops (opt.Finish value) h.snapshots tt; at_end = h.at_end }
 
   -- a box is this: its constant is new, if it has one
   named_pools : (b : BoxId) (a : Arg) → Pools (constants_in_arg a ++ pool) (named_as o b a)
-  named_pools b a = let k = pools_more (constants_in_arg a) pool o h in record { null = k.null; names = name_pooled laws (constants_in_arg a ++ pool) o.names b (Known a) (all_own (constants_in_arg a) pool) k.names; forward = k.forward; guards = k.guards; snapshots = k.snapshots; at_end = k.at_end }
+  named_pools b a = let k = pools_more (constants_in_arg a) pool o h in record { null = k.null; names = name_pooled laws (constants_in_arg a ++ pool) o.names b (Known a) (all_own (constants_in_arg a) pool) k.names; forward = k.forward; parts = k.parts; guards = k.guards; snapshots = k.snapshots; at_end = k.at_end }
 
   standing_pools : (b : BoxId) (a : Arg) → Pools (constants_in_arg a ++ pool) (standing_for o b a)
-  standing_pools b a = let k = pools_more (constants_in_arg a) pool o h in record { null = k.null; names = k.names; forward = name_pooled laws (constants_in_arg a ++ pool) o.forward b (Known a) (all_own (constants_in_arg a) pool) k.forward; guards = k.guards; snapshots = k.snapshots; at_end = k.at_end }
+  standing_pools b a = let k = pools_more (constants_in_arg a) pool o h in record { null = k.null; names = k.names; forward = name_pooled laws (constants_in_arg a ++ pool) o.forward b (Known a) (all_own (constants_in_arg a) pool) k.forward; parts = k.parts; guards = k.guards; snapshots = k.snapshots; at_end = k.at_end }
 
   known_pools : (known : _) → Pools pool (record o { known = known })
-  known_pools known = record { null = h.null; names = h.names; forward = h.forward; guards = h.guards; snapshots = h.snapshots; at_end = h.at_end }
+  known_pools known = record { null = h.null; names = h.names; forward = h.forward; parts = h.parts; guards = h.guards; snapshots = h.snapshots; at_end = h.at_end }
 
   passed_pools : (passed : _) → Pools pool (record o { passed = passed })
-  passed_pools passed = record { null = h.null; names = h.names; forward = h.forward; guards = h.guards; snapshots = h.snapshots; at_end = h.at_end }
+  passed_pools passed = record { null = h.null; names = h.names; forward = h.forward; parts = h.parts; guards = h.guards; snapshots = h.snapshots; at_end = h.at_end }
 
 -- Whole operations
 

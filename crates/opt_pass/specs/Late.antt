@@ -209,8 +209,8 @@ pub record KeepsLate (t : Table) (op : Op) (old new : Pass) : Type 0 where
   pub follows : Laws → (r : Rec) (p : Opt) → StandsLate t old r p → SameTurnLate t new (recorded_step t op r) (On p)
   pub live : AreAllLive old → AreAllLive new
   pub count : length new.virtuals ≤ length old.virtuals + 1
-  pub grows : length (live_in new.virtuals) ≤ length (live_in old.virtuals) + 1
-  pub cost : late_cost new ≤ late_cost old + (1 + length op.args)
+  pub grows : AreAllLive old → length (live_in new.virtuals) ≤ length (live_in old.virtuals) + 1
+  pub cost : AreAllLive old → late_cost new ≤ late_cost old + (1 + length op.args)
   pub forms : Laws → (set : TraceSet) (label : List BoxId) → set.table ≡ t → AreAllLive old → IsRuled set.table op → IsScoped old.names op → FormsLate set label old → FormsLate set label new
   pub names : Laws → KeepsNames op old new
   pub pool : KeepsPool op old new

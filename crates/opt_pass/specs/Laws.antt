@@ -8,7 +8,8 @@ use Rattle.agreement.specs.Performs.{PerformsAgree, OverflowsAlike}
 use Rattle.agreement.specs.Guarding.{PassesAlike}
 use Rattle.agreement.specs.Entering.{GuardAdmits, PlainAdmits}
 use Rattle.agreement.specs.Making.{NewVirtualAgrees, BytesAgree, MakeAgrees}
-use Rattle.agreement.specs.Writing.{FlushesAgree}
+use Rattle.agreement.specs.Reading.{PartIsRead}
+use Rattle.agreement.specs.Writing.{VirtualStoreAgrees, FlushesAgree}
 use Rattle.agreement.specs.Spots.{ShapesHaveSpots}
 
 pub record Laws : Type 0 where
@@ -29,6 +30,8 @@ pub record Laws : Type 0 where
   pub plain_admits : PlainAdmits
   pub bytes_agree : BytesAgree
   pub new_virtual_agrees : NewVirtualAgrees
+  pub part_is_read : PartIsRead
+  pub virtual_store_agrees : VirtualStoreAgrees
   pub make_agrees : MakeAgrees
   pub flushes_agree : FlushesAgree
   pub shapes_have_spots : ShapesHaveSpots

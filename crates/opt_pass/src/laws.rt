@@ -4,7 +4,8 @@ ghost use Rattle.opt_pass.specs.Laws.{Laws};
 use agreement::{
     boxes_grow, bytes_agree, calls_are_same, entry_starts, facts_change, flushes_agree,
     folds_alike, guard_admits, make_agrees, names_grow, new_virtual_agrees, overflows_alike,
-    passes_alike, performs_agree, plain_admits, renames_agree, shapes_have_spots,
+    part_is_read, passes_alike, performs_agree, plain_admits, renames_agree, shapes_have_spots,
+    virtual_store_agrees,
 };
 use trace_meaning::{boxes_keep_their_values, operations_only_add};
 use trace_ops::equality_decides;
@@ -30,6 +31,8 @@ pub fn laws_hold()
     plain_admits();
     bytes_agree();
     new_virtual_agrees();
+    part_is_read();
+    virtual_store_agrees();
     make_agrees();
     flushes_agree();
     shapes_have_spots();

@@ -5,6 +5,7 @@ mod entries;
 mod laws;
 mod names;
 mod objects;
+mod parts;
 mod pass;
 mod settle;
 mod snapshot;

@@ -17,10 +17,13 @@ ghost use Rattle.opt_pass.specs.Inputs.{HasInputs, AreLawful};
 ghost use Rattle.opt_pass.specs.Recording.{HaveSlots, JumpsWithTrace};
 ghost use Rattle.opt_pass.specs.Keeping.{KeepsAll, IsDone};
 ghost use Rattle.opt_pass.specs.Late.{shapes_now, IsStep};
-ghost use Rattle.opt_pass.specs.Virtual.{MakesStructure};
+ghost use Rattle.opt_pass.specs.Virtual.{MakesStructure, IsPart, ReadsField, WritesField};
 
 use crate::laws::laws_hold;
 use crate::objects::{new_op, size_kinds, structure};
+use crate::parts::{
+    Found, field_read, field_write, gives, is_made, part_at, read_op, takes, value_at, write_op,
+};
 use crate::settle::ready;
 use crate::start::{label_of, start};
 use crate::state::Pass;
@@ -32,7 +35,7 @@ use std::alloc::{AllocError, Global};
 use trace_check::Checked;
 use trace_meaning::lawful_legs_can_begin;
 use trace_ops::{
-    BoxId, Entry, List, Op, OpCode, Part, Piece, PieceId, Table, TraceSet, is_pure, part_of,
+    Arg, BoxId, Entry, List, Op, OpCode, Part, Piece, PieceId, Table, TraceSet, is_pure, part_of,
 };
 
 fn guard_op(pass: &mut Pass, alloc: Global, op: &Op) -> Result<(), AllocError>
@@ -114,6 +117,98 @@ fn structure_op(
     }
 }
 
+// A read of a part that a result can be.
+fn read_step(
+    pass: &mut Pass,
+    alloc: Global,
+    table: &Table,
+    op: &Op,
+    of: BoxId,
+    base: Arg,
+    field: u32,
+) -> Result<(), AllocError>
+    requires going { pass.old.ended ≡ false }
+    requires boxes { pass.old.next + length (shapes_now pass.old) + 1 < 2 ^ 32 }
+    requires guards { pass.old.guard + 1 < 2 ^ 32 }
+    requires reads { ReadsField op.now of base field }
+    ensures { OnOk result (IsStep table.now op.now pass.old pass.new) }
+{
+    let Some(found) = part_at(pass, table, base, field) else {
+        return handle(pass, alloc, table, op);
+    };
+    if !gives(pass, of, found) {
+        return handle(pass, alloc, table, op);
+    }
+    read_op(pass, table, op, of, base, field, found)
+}
+
+// A write of a value that the part takes.
+fn write_part(
+    pass: &mut Pass,
+    alloc: Global,
+    table: &Table,
+    op: &Op,
+    base: Arg,
+    value: Arg,
+    field: u32,
+    found: Found,
+) -> Result<(), AllocError>
+    requires going { pass.old.ended ≡ false }
+    requires boxes { pass.old.next + length (shapes_now pass.old) + 1 < 2 ^ 32 }
+    requires guards { pass.old.guard + 1 < 2 ^ 32 }
+    requires writes { WritesField op.now base value field }
+    requires part { IsPart table.now pass.old base field found.object found.part found.value }
+    ensures { OnOk result (IsStep table.now op.now pass.old pass.new) }
+{
+    let Some(x) = value_at(pass, value) else {
+        return handle(pass, alloc, table, op);
+    };
+    if !takes(pass, x, found) {
+        return handle(pass, alloc, table, op);
+    }
+    if !is_made(pass.virtuals.shapes(), x) {
+        return handle(pass, alloc, table, op);
+    }
+    write_op(pass, table, op, base, value, field, found, x);
+    Ok(())
+}
+
+fn write_step(
+    pass: &mut Pass,
+    alloc: Global,
+    table: &Table,
+    op: &Op,
+    base: Arg,
+    value: Arg,
+    field: u32,
+) -> Result<(), AllocError>
+    requires going { pass.old.ended ≡ false }
+    requires boxes { pass.old.next + length (shapes_now pass.old) + 1 < 2 ^ 32 }
+    requires guards { pass.old.guard + 1 < 2 ^ 32 }
+    requires writes { WritesField op.now base value field }
+    ensures { OnOk result (IsStep table.now op.now pass.old pass.new) }
+{
+    match part_at(pass, table, base, field) {
+        Some(found) => write_part(pass, alloc, table, op, base, value, field, found),
+        None => handle(pass, alloc, table, op),
+    }
+}
+
+fn field_step(pass: &mut Pass, alloc: Global, table: &Table, op: &Op) -> Result<(), AllocError>
+    requires going { pass.old.ended ≡ false }
+    requires boxes { pass.old.next + length (shapes_now pass.old) + 1 < 2 ^ 32 }
+    requires guards { pass.old.guard + 1 < 2 ^ 32 }
+    ensures { OnOk result (IsStep table.now op.now pass.old pass.new) }
+{
+    if let Some((of, base, field)) = field_read(op) {
+        return read_step(pass, alloc, table, op, of, base, field);
+    }
+    if let Some((base, value, field)) = field_write(op) {
+        return write_step(pass, alloc, table, op, base, value, field);
+    }
+    handle(pass, alloc, table, op)
+}
+
 fn step(pass: &mut Pass, alloc: Global, table: &Table, op: &Op) -> Result<(), AllocError>
     requires going { pass.old.ended ≡ false }
     requires boxes { pass.old.next + length (shapes_now pass.old) + 1 < 2 ^ 32 }
@@ -123,7 +218,7 @@ fn step(pass: &mut Pass, alloc: Global, table: &Table, op: &Op) -> Result<(), Al
 {
     match structure(op) {
         Some((of, size)) => structure_op(pass, alloc, table, op, of, size),
-        None => handle(pass, alloc, table, op),
+        None => field_step(pass, alloc, table, op),
     }
 }
 

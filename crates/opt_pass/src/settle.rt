@@ -12,7 +12,8 @@ use std::alloc::{AllocError, Global};
 use trace_ops::{BoxId, List, Op, Pending, Shape, Table, Val, reads_overflow};
 use virtuals::Virtuals;
 
-fn value_now(forward: &Names, x: Val) -> Val
+/// What a value is now.
+pub fn value_now(forward: &Names, x: Val) -> Val
     ensures { result ≡ meaning forward.now x }
 {
     match x {

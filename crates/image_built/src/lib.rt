@@ -9,4 +9,4 @@ mod running;
 pub use attached::attached_is_built;
 pub use hosting::arena_hosts_do;
 pub use laws::{compiled_begins, compiled_is_built, compiled_stands};
-pub use running::{Code, Compiling, attached_runs, compiled_runs};
+pub use running::{Code, attached_runs, compiled_runs};

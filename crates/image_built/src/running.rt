@@ -14,33 +14,22 @@ use image_runs::{
     Selection, built_stands, calls_are_had, ends_backward, ends_forward, sessions_stand,
 };
 
-/// Data that tell compiled pieces: the set, the pieces, the whole of which they are a part, and the setting of each.
-pub trait Compiling: Hosted {
-    ghost set: { Self → TraceSet };
-
-    ghost whole: { Self → List Piece };
-
-    ghost pieces: { Self → List Piece };
-
-    ghost settings: { Self → PieceId → Setting };
-}
-
 /// The code of compiled pieces, as what tells where values stand in it.
 #[derive(Drop)]
 pub struct Code<T: Drop> {
     pub told: T,
 }
 
-impl<T: Compiling + Drop> Selection for Code<T> {
+impl<T: Hosted + Drop> Selection for Code<T> {
     ghost use Rattle.image_model.specs.Modelled.{model_of};
 
-    ghost model = { λ c. model_of (T.host c.told) (T.set c.told) (T.whole c.told) (T.settings c.told) (T.pieces c.told) };
+    ghost model = { λ c told. model_of (T.host c.told) told.set told.whole told.settings told.pieces };
 }
 
 /// Whatever is started on the printed image of compiled loops, and whatever events there are: each activation runs as the pieces
 /// of its loop, forward and backward, with the same calls and failures.
-pub fn compiled_runs<T: Compiling + Drop>()
-    ensures { (x : T) → CompiledRuns (T.host x) (T.set x) (T.whole x) (T.pieces x) (T.settings x) }
+pub fn compiled_runs<T: Hosted + Drop>()
+    ensures { (x : T) (set : TraceSet) (whole ps : List Piece) (settings : PieceId → Setting) → CompiledRuns (T.host x) set whole ps settings }
 {
     compiled_is_built::<T>();
     built_stands::<Code<T>>();
@@ -53,8 +42,8 @@ pub fn compiled_runs<T: Compiling + Drop>()
 /// Whatever is started on the printed image of compiled loops, and whatever events there are, attachments among them: each
 /// activation runs as the pieces that are attached by then, under its own cuts, forward and backward, with the same calls and
 /// failures.
-pub fn attached_runs<T: Compiling + Drop>()
-    ensures { (x : T) → AttachedRuns (T.host x) (T.set x) (T.whole x) (T.pieces x) (T.settings x) }
+pub fn attached_runs<T: Hosted + Drop>()
+    ensures { (x : T) (set : TraceSet) (whole ps : List Piece) (settings : PieceId → Setting) → AttachedRuns (T.host x) set whole ps settings }
 {
     attached_is_built::<T>();
     built_stands::<Code<T>>();

@@ -17,3 +17,4 @@ pub mod Listed
 pub mod Sessions
 pub mod Relying
 pub mod Laws
+pub mod Selecting

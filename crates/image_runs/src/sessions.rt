@@ -1,19 +1,20 @@
 //! What any list of events keeps, and what follows for each activation.
 
 ghost use Rattle.image_runs.specs.Laws.{BuiltStands, StepKeeps, RunKeeps, OthersStay, ForwardBound, ShownBackward, WaitsBackward, MisfitsBackward, FullBeside, GoingCalls, ShownCalls, PointerIsPlace};
+ghost use Rattle.image_runs.specs.Selecting.{Selected};
 
 use crate::Selection;
 use crate::relied_on::lower_laws;
 
 /// What is made by compiling and by attachments is an image at every moment.
 pub fn built_stands<T: Selection>()
-    ensures { (x : T) → BuiltStands (T.model x) }
+    ensures { (x : T) (told : Selected) → BuiltStands (T.model x told) }
 {}
 
 /// Starts, events and attachments keep all activations beside their pieces.
 pub fn sessions_stand<T: Selection>()
-    ensures step { (x : T) → StepKeeps (T.model x) }
-    ensures run { (x : T) → RunKeeps (T.model x) }
+    ensures step { (x : T) (told : Selected) → StepKeeps (T.model x told) }
+    ensures run { (x : T) (told : Selected) → RunKeeps (T.model x told) }
 {
     lower_laws();
 }
@@ -25,28 +26,28 @@ pub fn others_stay()
 
 /// What ends in the pieces ends in the image, after so many instructions.
 pub fn ends_forward<T: Selection>()
-    ensures { (x : T) → ForwardBound (T.model x) }
+    ensures { (x : T) (told : Selected) → ForwardBound (T.model x told) }
 {
     lower_laws();
 }
 
 /// What has ended in the image has ended in the pieces, after so many legs.
 pub fn ends_backward<T: Selection>()
-    ensures shown { (x : T) → ShownBackward (T.model x) }
-    ensures waits { (x : T) → WaitsBackward (T.model x) }
-    ensures misfits { (x : T) → MisfitsBackward (T.model x) }
-    ensures full { (x : T) → FullBeside (T.model x) }
+    ensures shown { (x : T) (told : Selected) → ShownBackward (T.model x told) }
+    ensures waits { (x : T) (told : Selected) → WaitsBackward (T.model x told) }
+    ensures misfits { (x : T) (told : Selected) → MisfitsBackward (T.model x told) }
+    ensures full { (x : T) (told : Selected) → FullBeside (T.model x told) }
 {}
 
 /// An activation has had the calls of its pieces.
 pub fn calls_are_had<T: Selection>()
-    ensures going { (x : T) → GoingCalls (T.model x) }
-    ensures shown { (x : T) → ShownCalls (T.model x) }
+    ensures going { (x : T) (told : Selected) → GoingCalls (T.model x told) }
+    ensures shown { (x : T) (told : Selected) → ShownCalls (T.model x told) }
 {}
 
 /// The instruction pointer of a going activation is at a place of the listing.
 pub fn pointer_is_place<T: Selection>()
-    ensures { (x : T) → PointerIsPlace (T.model x) }
+    ensures { (x : T) (told : Selected) → PointerIsPlace (T.model x told) }
 {
     lower_laws();
 }

@@ -2,13 +2,13 @@ use Rattle.image_runs.proofs.Bounds.{shown_backward, waits_backward, misfits_bac
 use Rattle.image_runs.proofs.sessions.ends_backward.Goals as goal
 
 pub returns-clause-shown : goal.returns-clause-shown
-returns-clause-shown g c = λ x. shown_backward (g.T.Selection.model x)
+returns-clause-shown g c = λ x told. shown_backward (g.T.Selection.model x told)
 
 pub returns-clause-waits : goal.returns-clause-waits
-returns-clause-waits g c = λ x. waits_backward (g.T.Selection.model x)
+returns-clause-waits g c = λ x told. waits_backward (g.T.Selection.model x told)
 
 pub returns-clause-misfits : goal.returns-clause-misfits
-returns-clause-misfits g c = λ x. misfits_backward (g.T.Selection.model x)
+returns-clause-misfits g c = λ x told. misfits_backward (g.T.Selection.model x told)
 
 pub returns-clause-full : goal.returns-clause-full
-returns-clause-full g c = λ x. full_beside (g.T.Selection.model x)
+returns-clause-full g c = λ x told. full_beside (g.T.Selection.model x told)

@@ -4,5 +4,7 @@ pub mod OneStart
 pub mod SeenLines
 pub mod Ready
 pub mod Opted
+pub mod Printed
+pub mod Imaged
 pub mod Answerable
 pub mod HexLines

@@ -1,6 +1,6 @@
 -- Where nothing that isn't built is needed, a set has only words.
-use Rattle.std.proofs.Common.{◌≡◌, ◌⊎◌, ℕ, Bool, true, false, Option, Some, None, List, [], ◌∷◌, refl, ap, ◌∙◌, sym, inl, inr}
-use Rattle.std.specs.Prelude.{◌||◌, find, if◌then◌else◌}
+use Rattle.std.proofs.Common.{◌≡◌, ℕ, Bool, true, false, Option, Some, None, List, [], ◌∷◌, refl, inl, inr}
+use Rattle.std.specs.Prelude.{find, if◌then◌else◌}
 use Rattle.std.specs.List.{All, list_any}
 use Rattle.std.proofs.lemmas.Bool.{true≢false, or_parts}
 use Rattle.std.proofs.lemmas.List.Elements.{All-nil, All-cons, All-head, All-tail}
@@ -8,7 +8,6 @@ use Rattle.trace_ops.specs.declared.code.OpCode.{OpCode}
 use Rattle.trace_ops.specs.declared.code.OpCode.TheVariants as code
 use Rattle.trace_ops.specs.declared.trace.Kind.{Kind}
 use Rattle.trace_ops.specs.declared.trace.Kind.TheVariants as kind
-use Rattle.trace_ops.specs.declared.trace.BoxId.{BoxId}
 use Rattle.trace_ops.specs.declared.trace.Arg.{Arg}
 use Rattle.trace_ops.specs.declared.trace.Arg.TheVariants as arg
 use Rattle.trace_ops.specs.declared.trace.Op.{Op}
@@ -17,15 +16,16 @@ use Rattle.trace_ops.specs.declared.trace.Origin.TheVariants as origin
 use Rattle.trace_ops.specs.declared.trace.Trace.{Trace}
 use Rattle.trace_ops.specs.declared.trace.TraceSet.{TraceSet}
 use Rattle.trace_ops.specs.Facts.{takes_of, cites_of, part_of}
-use Rattle.trace_ops.specs.Classes.{guarding, overflowing, called, is_guard, is_overflowing, is_call}
+use Rattle.trace_ops.specs.Classes.{is_guard, is_overflowing, is_call}
 use Rattle.trace_ops.specs.Constants.{ArgHasWord, HasWords}
 use Rattle.opt_meaning.specs.StraightStep.{IsInteger}
 use Rattle.straight_run.specs.OnlyWords.{IsWordCode, IsOfWords, IsLoopOfWords, HasOnlyWords}
 use Rattle.session_text.specs.declared.session.SessionText.{SessionText}
 use Rattle.tj_app.specs.declared.words.Command.{Command}
+use Rattle.tj_app.specs.declared.words.Command.TheVariants as command
 use Rattle.tj_app.specs.declared.unbuilt.Unbuilt.{Unbuilt}
 use Rattle.tj_app.specs.declared.unbuilt.Unbuilt.TheVariants as un
-use Rattle.tj_app.specs.Unbuilt.{touches_objects, is_of_kind_reference, is_no_integer, takes_references, gives_reference, is_of_references, is_jump, op_needs, origin_needs, input_needs, trace_needs, table_needs, set_needs, command_needs, session_needs, needs, order, first_need}
+use Rattle.tj_app.specs.Unbuilt.{touches_objects, is_of_kind_reference, is_no_integer, takes_references, gives_reference, is_jump, op_needs, origin_needs, input_needs, trace_needs, table_needs, set_needs, command_needs, session_needs, other_needs, needs, line_needs, order, first_need}
 
 -- ---- tests that fail
 
@@ -195,9 +195,16 @@ word_traces (t ∷ ts) names g r k j b =
 -- ---- the first need
 
 -- each of the three that may need it doesn't
-apart : (c : Command) (set : TraceSet) (s : SessionText) (what : Unbuilt) → needs c set s what ≡ false → (set_needs set what ≡ false) × (session_needs what s ≡ false)
-apart c set s what h =
+parts : (c : Command) (set : TraceSet) (s : SessionText) (what : Unbuilt) → other_needs c set s what ≡ false → (set_needs set what ≡ false) × (session_needs what s ≡ false)
+parts c set s what h =
     let one = or_parts (command_needs c what) _ h in or_parts (set_needs set what) (session_needs what s) one.1
+
+apart : (c : Command) (set : TraceSet) (s : SessionText) (what : Unbuilt) → ((n : ℕ) → c ≡ command.Image n → ⊥) → needs c set s what ≡ false → (set_needs set what ≡ false) × (session_needs what s ≡ false)
+apart command.Check set s what other h = parts command.Check set s what h
+apart (command.Opt n) set s what other h = parts (command.Opt n) set s what h
+apart (command.Image n) set s what other h = absurd (other n refl)
+apart (command.Run a n) set s what other h = parts (command.Run a n) set s what h
+apart (command.Gen n k) set s what other h = parts (command.Gen n k) set s what h
 
 -- where nothing is needed: what isn't built, in its order
 pub record NeedsNothing (set : TraceSet) (s : SessionText) : Type 0 where
@@ -210,22 +217,22 @@ pub record NeedsNothing (set : TraceSet) (s : SessionText) : Type 0 where
   pub step : session_needs un.Step s ≡ false
   pub attach : session_needs un.Attach s ≡ false
 
-pub nothing_needed : (c : Command) (set : TraceSet) (s : SessionText) → first_need c set s ≡ None → NeedsNothing set s
-nothing_needed c set s h =
+pub nothing_needed : (c : Command) (set : TraceSet) (s : SessionText) → ((n : ℕ) → c ≡ command.Image n → ⊥) → first_need c set s ≡ None → NeedsNothing set s
+nothing_needed c set s other h =
     let all = find_none (needs c set s) order h in
-    let from_guard = all.1.1 in
+    let from_guard = all.1 in
     let from_call = from_guard.1.1 in
     let from_bridge = from_call.1.1 in
     let from_step = from_bridge.1.1 in
     record {
-      guard = (apart c set s un.Guard from_guard.0).0;
-      reference = (apart c set s un.Reference from_guard.1.0).0;
-      call = (apart c set s un.Call from_call.0).0;
-      jump = (apart c set s un.Jump from_call.1.0).0;
-      bridge = (apart c set s un.Bridge from_bridge.0).0;
-      activations = (apart c set s un.Activations from_bridge.1.0).1;
-      step = (apart c set s un.Step from_step.0).1;
-      attach = (apart c set s un.Attach from_step.1.0).1;
+      guard = (apart c set s un.Guard other from_guard.0).0;
+      reference = (apart c set s un.Reference other from_guard.1.0).0;
+      call = (apart c set s un.Call other from_call.0).0;
+      jump = (apart c set s un.Jump other from_call.1.0).0;
+      bridge = (apart c set s un.Bridge other from_bridge.0).0;
+      activations = (apart c set s un.Activations other from_bridge.1.0).1;
+      step = (apart c set s un.Step other from_step.0).1;
+      attach = (apart c set s un.Attach other from_step.1.0).1;
     }
 
 of_traces : (set : TraceSet) (what : Unbuilt) → set_needs set what ≡ false → list_any (trace_needs what) set.traces ≡ false
@@ -234,3 +241,10 @@ of_traces set what h = (or_parts (table_needs what set.table) (list_any (trace_n
 pub only_words : (set : TraceSet) (s : SessionText) → HasWords set → NeedsNothing set s → HasOnlyWords set
 only_words set s words h =
     word_traces set.traces words.args (of_traces set un.Guard h.guard) (of_traces set un.Reference h.reference) (of_traces set un.Call h.call) (of_traces set un.Jump h.jump) (of_traces set un.Bridge h.bridge)
+
+-- ---- images
+
+-- where an image needs nothing, no line attaches
+pub nothing_attached : (n : ℕ) (set : TraceSet) (s : SessionText) → first_need (command.Image n) set s ≡ None → list_any (line_needs un.Attach) s.lines ≡ false
+nothing_attached n set s h =
+    let all = find_none (needs (command.Image n) set s) order h in all.1.1.1.1.1.1.1.1.0

@@ -1,5 +1,5 @@
 -- The pieces of a set with the bridges that a session attaches, and what they promise.
-use Rattle.std.proofs.Common.{◌≡◌, ◌⊎◌, ℕ, ◌+◌, List, [], ◌∷◌, ◌++◌, Some, refl, sym, ap, subst, ◌∙◌, inl, inr}
+use Rattle.std.proofs.Common.{◌≡◌, ℕ, List, [], ◌∷◌, sym, subst, ◌∙◌}
 use Rattle.std.specs.List.{All}
 use Rattle.std.specs.Option.{IsSomeAnd}
 use Rattle.std.proofs.lemmas.List.Elements.{All-nil, All-cons}
@@ -10,7 +10,7 @@ use Rattle.trace_ops.specs.declared.trace.TraceSet.{TraceSet}
 use Rattle.session_text.specs.declared.session.Line.{Line}
 use Rattle.session_text.specs.declared.session.Line.TheVariants as line
 use Rattle.session_text.specs.declared.session.SessionText.{SessionText}
-use Rattle.session_text.specs.Fits.{LinesFit, FitsSet, IsBridgeOf, with_start_of}
+use Rattle.session_text.specs.Fits.{LinesFit, IsBridgeOf, with_start_of}
 use Rattle.opt_promise.specs.Promise.{MadePiecesPromise}
 use Rattle.loop_peel.specs.Peeling.{IsLoop, IsBridge}
 use Rattle.opt_set.specs.Optimised.{OptimisedAreMade, OptimisedAreSound}
@@ -40,7 +40,7 @@ bridges_attached set k (l ∷ ls) h = All-cons (AttachesBridge set) l ls (of_lin
 
 -- ---- the text
 
-pub opted : SetsHaveWords → MadePiecesPromise → OptimisedAreMade → OptimisedAreSound → (input text : List ℕ) (set : TraceSet) (session : SessionText) → Tells input set session → IsTextOf set session.lines text → IsOptText input text
+abbrev pub opted : SetsHaveWords → MadePiecesPromise → OptimisedAreMade → OptimisedAreSound → (input text : List ℕ) (set : TraceSet) (session : SessionText) → Tells input set session → IsTextOf set session.lines text → IsOptText input text
 opted have promise are_made are_sound input text set session told h =
     let words = have input (set, told.stands.0) told.stands.1 in
     let made = are_made set h.pieces told.checked.well_formed words h.optimised in

@@ -21,11 +21,11 @@ use Rattle.tj_app.proofs.OneStart.{one_start}
 abbrev pub SetsHaveWords : Type 0
 SetsHaveWords = (text : List ℕ) (x : TraceSet × ℕ) → set_at text ≡ Ok x → HasWords x.0
 
-pub ready : WellFormedSetsAreStraight → SetsHaveWords → (command : Command) (input : List ℕ) (set : TraceSet) (session : SessionText) → IsBuilt command input set session → FitsSet set session → IsReady set session
-ready are_straight have_words command input set session built fits =
+pub ready : WellFormedSetsAreStraight → SetsHaveWords → (command : Command) (input : List ℕ) (set : TraceSet) (session : SessionText) → ((n : ℕ) → command ≡ Image n → ⊥) → IsBuilt command input set session → FitsSet set session → IsReady set session
+ready are_straight have_words command input set session other built fits =
     let checked = built.0.checked in
     let stands = built.0.stands in
-    let nothing = nothing_needed command set session built.1 in
+    let nothing = nothing_needed command set session other built.1 in
     let words = only_words set session (have_words input (set, stands.0) stands.1) nothing in
     let straight = are_straight set checked.in_range checked.well_formed words in
     record {
@@ -49,10 +49,10 @@ ran behave are_whole command input text set session built ready h = record {
   whole = (are_whole set h.image ready.straight ready.few h.compiled).0;
 }
 
--- what a command other than `check` and `opt` answers
-pub other_text : (command : Command) (input : List ℕ) (answer : Result (Vec ℕ Global) Fault) → (command ≡ Check → ⊥) → ((n : ℕ) → command ≡ Opt n → ⊥) → MatchResult answer (λ text. Ran command input text.items) (IsUntold command input) → MatchResult answer (λ text. IsTextFor command input text.items) (IsRefusedBy command input)
-other_text Check input answer check opt h = absurd (check refl)
-other_text (Opt n) input answer check opt h = absurd (opt n refl)
-other_text (Image n) input answer check opt h = h
-other_text (Run a n) input answer check opt h = h
-other_text (Gen n k) input answer check opt h = h
+-- what a command other than `check`, `opt` and `image` answers
+pub other_text : (command : Command) (input : List ℕ) (answer : Result (Vec ℕ Global) Fault) → (command ≡ Check → ⊥) → ((n : ℕ) → command ≡ Opt n → ⊥) → ((n : ℕ) → command ≡ Image n → ⊥) → MatchResult answer (λ text. Ran command input text.items) (IsUntold command input) → MatchResult answer (λ text. IsTextFor command input text.items) (IsRefusedBy command input)
+other_text Check input answer check opt image h = absurd (check refl)
+other_text (Opt n) input answer check opt image h = absurd (opt n refl)
+other_text (Image n) input answer check opt image h = absurd (image n refl)
+other_text (Run a n) input answer check opt image h = h
+other_text (Gen n k) input answer check opt image h = h

@@ -62,6 +62,11 @@ abbrev pub Reads : List (List ℕ) → Option Command → Type 0
 Reads words (Some command) = Asks words command
 Reads words None = IsNoForm words
 
+-- `image` is asked for from 3 to 12 registers
+abbrev pub HasRegisters : Command → Type 0
+HasRegisters (Image registers) = (3 ≤ registers) × (registers ≤ 12)
+HasRegisters _ = Unit {0}
+
 -- ---- what the parts of words are read as
 
 abbrev pub ReadsNumber : ℕ → ℕ → List ℕ → Option ℕ → Type 0

@@ -8,4 +8,5 @@ pub mod Counting
 pub mod Unbuilt
 pub mod Telling
 pub mod Opting
+pub mod Imaging
 pub mod Top

@@ -19,10 +19,11 @@ use Rattle.tj_app.specs.declared.ending.Status.{Status}
 use Rattle.tj_app.specs.declared.refusal.Fault.{Fault}
 use Rattle.tj_app.specs.declared.refusal.Fault.TheVariants.{Syntax, Float, UnknownOp, UnknownDescr, UnknownBox, Twice, UnknownName, BadInitial, IllFormed, SessionBad, Usage, Read, Limit, Memory, NotBuilt}
 use Rattle.tj_app.specs.declared.words.Command.{Command}
-use Rattle.tj_app.specs.declared.words.Command.TheVariants.{Check, Opt, Image as ImageOf, Run, Gen}
+use Rattle.tj_app.specs.declared.words.Command.TheVariants.{Check, Opt, Image as ImageOf, Gen}
 use Rattle.tj_app.specs.Asking.{Asks}
 use Rattle.tj_app.specs.Counting.{IsCounted}
 use Rattle.tj_app.specs.Opting.{IsOptText}
+use Rattle.tj_app.specs.Imaging.{IsImageText}
 use Rattle.tj_app.specs.Telling.{Tells, IsBuilt, IsUnread, IsUntold}
 use Rattle.tj_app.specs.Refusing.{status_of, fault_text}
 use Rattle.tj_app.specs.Session.{IsSeen}
@@ -52,6 +53,7 @@ pub record Ran (command : Command) (input text : List ℕ) : Type 0 where
 abbrev pub IsTextFor : Command → List ℕ → List ℕ → Type 0
 IsTextFor Check input text = IsCounted input text
 IsTextFor (Opt n) input text = IsOptText input text
+IsTextFor (ImageOf n) input text = IsImageText n input text
 IsTextFor command input text = Ran command input text
 
 -- all of the source was read: it gave this input, of at most 16 MiB

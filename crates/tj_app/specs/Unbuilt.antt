@@ -1,7 +1,6 @@
 -- What isn't built yet, and what needs it.
-use Rattle.std.specs.Prelude.{◌≡◌, ℕ, ◌==◌, Bool, true, false, not, ◌&&◌, ◌||◌, Option, Some, None, List, [], ◌∷◌, codes, length, find}
+use Rattle.std.specs.Prelude.{ℕ, ◌==◌, Bool, true, false, not, ◌||◌, Option, Some, None, List, [], ◌∷◌, codes, length, find}
 use Rattle.std.specs.List.{list_any}
-use Rattle.trace_ops.specs.declared.code.OpCode.{OpCode}
 use Rattle.trace_ops.specs.declared.facts.Want.TheVariants as want
 use Rattle.trace_ops.specs.declared.facts.Takes.{Takes}
 use Rattle.trace_ops.specs.declared.facts.Takes.TheVariants as takes
@@ -31,7 +30,6 @@ use Rattle.tj_app.specs.declared.unbuilt.Unbuilt.{Unbuilt}
 use Rattle.tj_app.specs.declared.unbuilt.Unbuilt.TheVariants as un
 
 abbrev pub name_of : Unbuilt → List ℕ
-name_of un.Image = codes "image"
 name_of un.Gen = codes "gen"
 name_of un.Guard = codes "guard"
 name_of un.Reference = codes "reference"
@@ -116,7 +114,6 @@ set_needs set what = table_needs what set.table || list_any (trace_needs what) s
 -- ---- commands and sessions
 
 abbrev pub command_needs : Command → Unbuilt → Bool
-command_needs (command.Image n) un.Image = true
 command_needs (command.Gen n k) un.Gen = true
 command_needs _ _ = false
 
@@ -136,12 +133,24 @@ session_needs what s = starts_need what (length s.names) || list_any (line_needs
 
 -- ---- the first
 
+-- of `image` attachments alone aren't built
+abbrev pub image_needs : Unbuilt → SessionText → Bool
+image_needs un.Attach s = list_any (line_needs un.Attach) s.lines
+image_needs _ s = false
+
+abbrev pub other_needs : Command → TraceSet → SessionText → Unbuilt → Bool
+other_needs c set s what = command_needs c what || (set_needs set what || session_needs what s)
+
 abbrev pub needs : Command → TraceSet → SessionText → Unbuilt → Bool
-needs c set s what = command_needs c what || (set_needs set what || session_needs what s)
+needs (command.Image n) set s what = image_needs what s
+needs command.Check set s what = other_needs command.Check set s what
+needs (command.Opt n) set s what = other_needs (command.Opt n) set s what
+needs (command.Run a n) set s what = other_needs (command.Run a n) set s what
+needs (command.Gen n k) set s what = other_needs (command.Gen n k) set s what
 
 -- the order in which it is looked for
 abbrev pub order : List Unbuilt
-order = un.Image ∷ un.Gen ∷ un.Guard ∷ un.Reference ∷ un.Call ∷ un.Jump ∷ un.Bridge ∷ un.Activations ∷ un.Step ∷ un.Attach ∷ []
+order = un.Gen ∷ un.Guard ∷ un.Reference ∷ un.Call ∷ un.Jump ∷ un.Bridge ∷ un.Activations ∷ un.Step ∷ un.Attach ∷ []
 
 abbrev pub first_need : Command → TraceSet → SessionText → Option Unbuilt
 first_need c set s = find (needs c set s) order

@@ -3,12 +3,13 @@ ghost use Rattle.std.specs.Prelude.{◌≡◌, ◌≢◌, ◌≤◌, ◌<◌, �
 ghost use Rattle.std.specs.String.{string_bytes};
 ghost use Rattle.std.specs.Io.KnownBytes.{Appends};
 ghost use Rattle.io_edge.specs.Causes.{Rose};
-ghost use Rattle.tj_app.specs.Asking.{IsNoForm};
+ghost use Rattle.tj_app.specs.Asking.{IsNoForm, HasRegisters};
 ghost use Rattle.tj_app.specs.Refusing.{fault_text, status_of, Says};
 ghost use Rattle.tj_app.specs.Top.{Done, Answers, Causes, IsTextFor, IsRefusedBy, IsInput, IsRead, Refuses};
 
 use crate::counting::counts;
 use crate::ending::Status;
+use crate::imaging::image_text;
 use crate::opting::opt_text;
 use crate::refusal::{Fault, fault_line};
 use crate::running::run_text;
@@ -20,10 +21,10 @@ use trace_ops::What;
 const LIMIT: usize = 16_777_216;
 
 /// Does what the words ask for. `check` reads an input from the source, and writes the counts of the set of traces that
-/// it stands for to the sink; its session's lines are read as those of `run` are. `run` writes an image of the set's
-/// loops and what was seen of the session over it, `opt` the optimised pieces of the loops and of the bridges that the
-/// session attaches. Of the other forms `image` and `gen` aren't built. A refused input has one line, which is all that
-/// is written. First the words are judged, then the source's reads and the input's length, then its lines, whether the
+/// it stands for to the sink; its session's lines are read as those of `run` are. `opt` writes the optimised pieces of the
+/// loops and of the bridges that the session attaches, `image` those of the loops and the image that is made of them, where
+/// the session attaches nothing, and `run` an image of straight loops and what was seen of the session over it. Of the other
+/// forms `gen` isn't built. A refused input has one line, which is all that is written. First the words are judged, then the source's reads and the input's length, then its lines, whether the
 /// set is well formed, its weight, the session's lines, and at last what isn't built.
 pub fn serve<S: Source, K: Sink>(
     alloc: Global,
@@ -77,6 +78,7 @@ fn refuse<K: Sink>(alloc: Global, fault: &Fault, sink: &mut K) -> Status
 
 // The command's text for the source's input.
 fn answer<S: Source>(alloc: Global, command: Command, src: &mut S) -> Result<Vec<u8>, Fault>
+    requires { HasRegisters command }
     ensures { MatchResult result (λ text. Answers command (S.left src.old) (S.left src.new) text.items) (λ fault. Causes command fault (S.left src.old) (S.left src.new) (S.faults src.old) (S.faults src.new)) }
 {
     let bytes = input(alloc, command, src)?;
@@ -110,12 +112,14 @@ fn all_of<S: Source>(alloc: Global, src: &mut S) -> Result<Vec<u8>, Fault>
 
 // The command's text for an input.
 fn text_for(alloc: Global, command: Command, bytes: &[u8]) -> Result<Vec<u8>, Fault>
-    requires { length bytes.now ≤ 16777216 }
+    requires within { length bytes.now ≤ 16777216 }
+    requires registers { HasRegisters command }
     ensures { MatchResult result (λ text. IsTextFor command bytes.now text.items) (IsRefusedBy command bytes.now) }
 {
     match command {
         Command::Check => counts(alloc, bytes),
         Command::Opt { registers: _ } => opt_text(alloc, bytes),
+        Command::Image { registers } => image_text(alloc, registers, bytes),
         _ => run_text(alloc, command, bytes),
     }
 }

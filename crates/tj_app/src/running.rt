@@ -1,13 +1,13 @@
 //! The answer of `run` to an input.
-ghost use Rattle.std.specs.Prelude.{◌≤◌, ◌<◌, ◌^◌, length, IfOk, OnOk, MatchResult};
+ghost use Rattle.std.specs.Prelude.{ℕ, ◌≢◌, ◌≤◌, ◌<◌, ◌^◌, length, IfOk, OnOk, MatchResult};
 ghost use Rattle.tj_app.specs.Session.{AreRuns};
 ghost use Rattle.tj_app.specs.Running.{IsStart, IsOne, IsReady, IsRunText, AddsLoop, AddsActivation, AddsSession};
 ghost use Rattle.tj_app.specs.Telling.{IsUntold};
 ghost use Rattle.tj_app.specs.Top.{Ran};
 
-use crate::image_text::put_image;
 use crate::refusal::Fault;
 use crate::session::{put_runs, put_started, words_of};
+use crate::straight_text::put_image;
 use crate::telling::read_usable;
 use crate::words::Command;
 use session_text::{Line, SessionText};
@@ -21,7 +21,8 @@ use trace_text::text_laws;
 
 /// The image of an input's loops, and what is seen of its session, or why there is none.
 pub fn run_text(alloc: Global, command: Command, bytes: &[u8]) -> Result<Vec<u8>, Fault>
-    requires { length bytes.now ≤ 16777216 }
+    requires within { length bytes.now ≤ 16777216 }
+    requires other { (n : ℕ) → command ≢ Command.Image n }
     ensures { MatchResult result (λ text. Ran command bytes.now text.items) (IsUntold command bytes.now) }
 {
     text_laws();

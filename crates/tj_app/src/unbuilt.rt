@@ -2,7 +2,7 @@
 ghost use Rattle.std.specs.Prelude.{◌≡◌, ◌≤◌, find, length};
 ghost use Rattle.std.specs.List.{list_any};
 ghost use Rattle.trace_ops.specs.Facts.{part_of, cites_of, takes_of};
-ghost use Rattle.tj_app.specs.Unbuilt.{name_of, touches_objects, is_of_kind_reference, is_reference, is_no_integer, takes_references, gives_reference, is_of_references, is_jump, op_needs, input_needs, origin_needs, trace_needs, table_needs, set_needs, command_needs, starts_need, line_needs, session_needs, needs, first_need};
+ghost use Rattle.tj_app.specs.Unbuilt.{name_of, touches_objects, is_of_kind_reference, is_reference, is_no_integer, takes_references, gives_reference, is_of_references, is_jump, op_needs, input_needs, origin_needs, trace_needs, table_needs, set_needs, command_needs, starts_need, line_needs, session_needs, needs, first_need, image_needs, other_needs};
 
 use crate::words::Command;
 use session_text::{Line, SessionText};
@@ -11,12 +11,12 @@ use trace_ops::{
     cites_of, is_call, is_guard, is_overflowing, part_of, takes_of,
 };
 
-/// What isn't built yet, in the order in which it is looked for: a command, operations, bridges, lines of a session.
+/// What isn't built yet, in the order in which it is looked for: a command, operations, bridges, lines of a session. Of
+/// `image` it is `Attach` alone.
 /// `Reference` is an operation or an input of references, fields, items or allocations, or a prebuilt object; `Activations` a session that
 /// has not one start.
 #[derive(Clone, Copy, Debug, PartialEq, Eq)]
 pub enum Unbuilt {
-    Image,
     Gen,
     Guard,
     Reference,
@@ -41,7 +41,6 @@ impl Unbuilt {
         ensures short { length result.now ≤ 64 }
     {
         match self {
-            Unbuilt::Image => b"image",
             Unbuilt::Gen => b"gen",
             Unbuilt::Guard => b"guard",
             Unbuilt::Reference => b"reference",
@@ -60,7 +59,6 @@ pub fn first_need(command: Command, set: &TraceSet, session: &SessionText) -> Op
     ensures { result ≡ first_need command set.now session.now }
 {
     let order = [
-        Unbuilt::Image,
         Unbuilt::Gen,
         Unbuilt::Guard,
         Unbuilt::Reference,
@@ -93,6 +91,24 @@ fn first_of(
 fn needs(command: Command, set: &TraceSet, session: &SessionText, what: Unbuilt) -> bool
     ensures { result ≡ needs command set.now session.now what }
 {
+    match command {
+        Command::Image { registers: _ } => image_needs(session, what),
+        _ => other_needs(command, set, session, what),
+    }
+}
+
+fn image_needs(session: &SessionText, what: Unbuilt) -> bool
+    ensures { result ≡ image_needs what session.now }
+{
+    match what {
+        Unbuilt::Attach => lines_need(session.lines.items(), what),
+        _ => false,
+    }
+}
+
+fn other_needs(command: Command, set: &TraceSet, session: &SessionText, what: Unbuilt) -> bool
+    ensures { result ≡ other_needs command set.now session.now what }
+{
     command_needs(command, what) || set_needs(set, what) || session_needs(session, what)
 }
 
@@ -100,7 +116,6 @@ fn command_needs(command: Command, what: Unbuilt) -> bool
     ensures { result ≡ command_needs command what }
 {
     match (command, what) {
-        (Command::Image { registers: _ }, Unbuilt::Image) => true,
         (Command::Gen { number: _, size: _ }, Unbuilt::Gen) => true,
         _ => false,
     }

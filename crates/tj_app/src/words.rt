@@ -1,7 +1,7 @@
 //! The words of the program, and the command that they ask for.
 ghost use Rattle.std.specs.Prelude.{◌≡◌, ◌↔◌, ◌≤◌, ℕ, List, [], ◌∷◌, codes, map, slice_index, IsTrue, IfSome};
 ghost use Rattle.std.specs.String.{string_bytes};
-ghost use Rattle.tj_app.specs.Asking.{Asks, IsShort, Reads, ReadsNumber, ReadsArena, ReadsRegisters, ReadsCount, ReadsOptions, ReadsSeedAndSize};
+ghost use Rattle.tj_app.specs.Asking.{Asks, IsShort, Reads, ReadsNumber, ReadsArena, ReadsRegisters, ReadsCount, ReadsOptions, ReadsSeedAndSize, HasRegisters};
 
 use text_lines::decimal_of;
 
@@ -36,7 +36,8 @@ pub enum Command {
 
 /// The command that the words ask for, where they ask for one.
 pub fn command_of(words: &[String]) -> Option<Command>
-    ensures { Reads (map string_bytes words.now) result }
+    ensures read { Reads (map string_bytes words.now) result }
+    ensures registers { IfSome result HasRegisters }
 {
     match words {
         [] => None,
@@ -45,7 +46,8 @@ pub fn command_of(words: &[String]) -> Option<Command>
 }
 
 fn command_named(name: &String, options: &[String]) -> Option<Command>
-    ensures { Reads (string_bytes name.now ∷ map string_bytes options.now) result }
+    ensures read { Reads (string_bytes name.now ∷ map string_bytes options.now) result }
+    ensures registers { IfSome result HasRegisters }
 {
     if is_key(name, b"check") {
         return check_of(options);
@@ -70,7 +72,8 @@ fn command_named(name: &String, options: &[String]) -> Option<Command>
 }
 
 fn check_of(options: &[String]) -> Option<Command>
-    ensures { Reads (codes "check" ∷ map string_bytes options.now) result }
+    ensures read { Reads (codes "check" ∷ map string_bytes options.now) result }
+    ensures registers { IfSome result HasRegisters }
 {
     if options.is_empty() {
         Some(Command::Check)
@@ -81,7 +84,8 @@ fn check_of(options: &[String]) -> Option<Command>
 
 // How many registers hold values.
 fn registers_of(options: &[String]) -> Option<u8>
-    ensures { ReadsCount (map string_bytes options.now) result }
+    ensures read { ReadsCount (map string_bytes options.now) result }
+    ensures within { IfSome result (λ n. (3 ≤ n) × (n ≤ 12)) }
 {
     match options {
         [] => Some(DEFAULT_REGISTERS),
@@ -154,7 +158,8 @@ fn arena_in(key: &String, word: &String) -> Option<u32>
 }
 
 fn registers_in(key: &String, word: &String) -> Option<u8>
-    ensures { ReadsRegisters (string_bytes key.now) (string_bytes word.now) result }
+    ensures read { ReadsRegisters (string_bytes key.now) (string_bytes word.now) result }
+    ensures within { IfSome result (λ n. (3 ≤ n) × (n ≤ 12)) }
 {
     if !is_key(key, b"--registers") {
         return None;

@@ -1,6 +1,6 @@
 use Rattle.std.proofs.Common.{◌≡◌, ◌++◌, length}
 use Rattle.tj_app.specs.Output.{hex_from}
-use Rattle.tj_app.proofs.image_text.put_hex.Given as goal
+use Rattle.tj_app.proofs.straight_text.put_hex.Given as goal
 
 abbrev pub invariant-loop-rest : goal.invariant-loop-rest
 invariant-loop-rest l = l.out.items ++ hex_from 32 l.rest ≡ l.fn.out.items ++ hex_from 32 l.bytes

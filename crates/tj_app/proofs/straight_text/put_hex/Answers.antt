@@ -1,6 +1,6 @@
 use Rattle.std.proofs.Common.{sym, ◌∙◌, arith}
 use Rattle.tj_app.proofs.HexLines.{stays, done, nothing}
-use Rattle.tj_app.proofs.image_text.put_hex.Goals as goal
+use Rattle.tj_app.proofs.straight_text.put_hex.Goals as goal
 
 pub loop-rest-preserved : goal.loop-rest-preserved
 loop-rest-preserved c =

@@ -135,9 +135,9 @@ fn main(rt: HostRuntime) -> Result<()> {
 }
 EOF
 cat > "$speed/proofs/Lib.antt" <<'EOF'
-mod Fresh
+mod Alone
 EOF
-cat > "$speed/proofs/Fresh.antt" <<'EOF'
+cat > "$speed/proofs/Alone.antt" <<'EOF'
 -- Boxes that stand for themselves.
 use Rattle.std.proofs.Common.{◌≡◌, ℕ, zero, suc, ◌<◌, List, Option, Some, None, replicate, slice_get, refl, ap, ◌∙◌, arith}
 use Rattle.trace_ops.specs.declared.trace.Arg.{Arg}
@@ -165,7 +165,7 @@ abbrev pub invariant-loop-k : goal.invariant-loop-k
 invariant-loop-k l = (j : ℕ) → l.k ≤ j → j < l.count + 1 → slice_get l.forward j ≡ Some None
 EOF
 cat > "$speed/proofs/fresh/Answers.antt" <<'EOF'
-use Rattle.note_speed.proofs.Fresh.{each_none}
+use Rattle.note_speed.proofs.Alone.{each_none}
 use Rattle.note_speed.proofs.fresh.Goals as goal
 
 pub returns : goal.returns

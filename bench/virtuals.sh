@@ -139,11 +139,15 @@ invariant-loop-k l = record {
 }
 EOF
 cat > "$work/crates/force_speed/proofs/singles/Answers.antt" <<'EOF'
-use Rattle.std.proofs.Common.{◌≡◌, ◌+◌, length, ap, sym, subst, ◌∙◌, inl, inr, arith}
+use Rattle.std.proofs.Common.{◌≡◌, ◌+◌, List, [], ◌∷◌, ◌++◌, Option, length, ap, subst, ◌∙◌, inl, inr, arith}
 use Rattle.std.proofs.lemmas.Bool.{cases_lt}
 use Rattle.std.proofs.lemmas.List.{length_push}
+use Rattle.trace_ops.specs.declared.piece.Shape.{Shape}
 use Rattle.virtuals.specs.Shapes.{IsLive}
 use Rattle.force_speed.proofs.singles.Goals as goal
+
+one_more : (x : Option Shape) (old new : List (Option Shape)) → new ≡ old ++ x ∷ [] → length new ≡ length old + 1
+one_more x old new e = ap (λ (xs : List (Option Shape)). length xs) e ∙ length_push old x
 
 pub loop-k-preserved : goal.loop-k-preserved
 loop-k-preserved c = record {
@@ -153,7 +157,7 @@ loop-k-preserved c = record {
         let same : c.in_ok-make.field-0 ≡ j = omega (arith, c.in_ok-make.ensures.id, c.loop-k.invariant.count, high, h) in
         subst (IsLive c.make.new.self) same c.in_ok-make.ensures.made
   ];
-  count = omega (arith, ap length c.in_ok-make.ensures.ok, length_push c.loop-k.virtuals _, c.loop-k.invariant.count);
+  count = omega (arith, one_more _ c.loop-k.virtuals c.make.new.self c.in_ok-make.ensures.ok, c.loop-k.invariant.count);
 }
 EOF
 cat > "$work/crates/force_speed/proofs/force_each/Invariants.antt" <<'EOF'

@@ -1,9 +1,9 @@
 -- A simple table is lawful.
-use Rattle.std.proofs.Common.{◌≡◌, ℕ, zero, suc, ◌+◌, ◌*◌, ◌/◌, ◌%◌, ◌<◌, Bool, true, false, not, cond, ◌&&◌, ◌||◌, eqb, Option, Some, None, List, [], ◌∷◌, length, map, slice_get, refl, ap, sym, ◌∙◌, subst, arith}
-use Rattle.std.specs.Prelude.{slice_index_or, nat_eq, nat_lt, ◌==◌, is_none}
+use Rattle.std.proofs.Common.{◌≡◌, ℕ, zero, suc, ◌/◌, ◌%◌, ◌<◌, Bool, true, false, not, cond, ◌&&◌, ◌||◌, Option, Some, None, List, [], ◌∷◌, length, map, slice_get, refl, ap, sym, ◌∙◌, subst, arith}
+use Rattle.std.specs.Prelude.{slice_index_or, nat_lt, ◌==◌, is_none}
 use Rattle.std.specs.List.{All, Contains, list_all, list_any}
-use Rattle.std.proofs.lemmas.Option.{same_Some, slice_get_within, get_or_from_slice_get}
-use Rattle.std.proofs.lemmas.Bool.{and_parts, or_parts, eqb-true}
+use Rattle.std.proofs.lemmas.Option.{slice_get_within, get_or_from_slice_get}
+use Rattle.std.proofs.lemmas.Bool.{and_parts, eqb-true}
 use Rattle.std.proofs.lemmas.Bool.Decides.{nat_tests}
 use Rattle.std.proofs.lemmas.List.Elements.{All-cons}
 use Rattle.trace_ops.specs.declared.trace.Arg.{Arg}
@@ -23,7 +23,7 @@ use Rattle.resume_numbering.specs.Tags.{IsConstBelow, IsVirtualBelow, IsNoVirtua
 use Rattle.resume_numbering.specs.Standing.{HasLowerParents}
 use Rattle.resume_numbering.specs.Leading.{LeadsOnlyTo}
 use Rattle.resume_numbering.specs.Lawful.{IsConstant, StoresKeep, IsLawful}
-use Rattle.resume_numbering.specs.Reading.{IsRowOf, HasRow}
+use Rattle.resume_numbering.specs.Reading.{HasRow}
 use Rattle.resume_rebuild.specs.Known.{IsKnown, ShapesAreKnown}
 use Rattle.resume_rebuild.specs.Rows.{rows_at, with_row}
 use Rattle.lists.proofs.Alls.{all_at, all_weaker}

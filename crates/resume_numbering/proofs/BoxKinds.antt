@@ -1,6 +1,5 @@
 -- Boxes of which no two have one number tell the kinds of a snapshot.
-use Rattle.std.proofs.Common.{◌≡◌, ℕ, zero, suc, ◌+◌, ◌≤◌, ◌<◌, Bool, true, false, List, [], ◌∷◌, Option, Some, None, length, map, slice_get, refl, sym, ap, subst, ◌∙◌, inl, inr, arith, if◌then◌else◌, zero-add}
-use Rattle.std.specs.Prelude.{nat_eq}
+use Rattle.std.proofs.Common.{◌≡◌, ℕ, zero, suc, ◌+◌, ◌<◌, Bool, List, [], ◌∷◌, Option, Some, map, slice_get, sym, ap, subst, ◌∙◌, inl, inr, arith, if◌then◌else◌, zero-add}
 use Rattle.std.specs.List.{All, Contains, range_with_len}
 use Rattle.std.proofs.lemmas.Bool.Decides.{eqb_tells}
 use Rattle.std.proofs.lemmas.List.Elements.{All-head}
@@ -9,11 +8,10 @@ use Rattle.trace_ops.specs.declared.trace.BoxId.{BoxId}
 use Rattle.trace_ops.specs.declared.trace.Arg.TheVariants.{Of, Const, Null, Class, Func, Ptr}
 use Rattle.trace_ops.specs.declared.piece.Val.{Val}
 use Rattle.trace_ops.specs.declared.piece.Val.TheVariants.{Known, Virtual}
-use Rattle.trace_ops.specs.declared.piece.Snapshot.{Snapshot}
-use Rattle.trace_ops.specs.Parts.{boxes_of_val, boxes_of}
+use Rattle.trace_ops.specs.Parts.{boxes_of_val}
 use Rattle.trace_ops.specs.Sound.{AreApart}
 use Rattle.resume_numbering.specs.Values.{IsOfKind}
-use Rattle.resume_numbering.specs.Boxes.{AreBoxesOf, kind_among, kind_or_integer, kinds_of, BoxesTellKinds, ReadsOneOfBoxes}
+use Rattle.resume_numbering.specs.Boxes.{kind_among, kind_or_integer, kinds_of, BoxesTellKinds, ReadsOneOfBoxes}
 use Rattle.resume_numbering.proofs.ValueBoxes.{snapshot_from}
 use Rattle.resume_numbering.proofs.UniqueLemmas.{reads_one}
 
@@ -26,7 +24,7 @@ mapped (x ∷ xs) b (zero, lt, e) = (0, omega arith, ap (λ (y : BoxId). y.numbe
 mapped (x ∷ xs) b (suc k, lt, e) = further x.number (map (λ (y : BoxId). y.number) xs) b.number (mapped xs b (k, omega (arith, lt), e))
 
 -- the number of a box tells its kind
-kind_told : (bs : List BoxId) (b : BoxId) → AreApart (map (λ (x : BoxId). x.number) bs) → Contains bs b → kind_among bs b.number ≡ Some b.kind
+pub kind_told : (bs : List BoxId) (b : BoxId) → AreApart (map (λ (x : BoxId). x.number) bs) → Contains bs b → kind_among bs b.number ≡ Some b.kind
 kind_told [] b apart c = absurd (omega (arith, c.1))
 kind_told (x ∷ xs) b apart (zero, lt, e) = elim (eqb_tells x.number b.number) [
   | inl t ↦ ap (λ (q : Bool). if q then Some x.kind else kind_among xs b.number) t.0 ∙ ap (λ (y : BoxId). Some y.kind) e

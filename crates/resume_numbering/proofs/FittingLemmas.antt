@@ -5,12 +5,10 @@ use Rattle.std.specs.List.{list_all, All, AllByRecursion, AllZip, Contains, flat
 use Rattle.std.specs.Option.{option_map}
 use Rattle.std.proofs.lemmas.Bool.{and_parts, ltb-true, eqb-true}
 use Rattle.std.proofs.lemmas.List.Sums.{sum_by-cons}
-use Rattle.std.proofs.lemmas.List.Elements.{All-from_recursion, recursion_from_All, All-contains, Contains-append_cases}
+use Rattle.std.proofs.lemmas.List.Elements.{All-from_recursion, recursion_from_All, All-contains}
 use Rattle.std.proofs.lemmas.Option.{slice_get_within, slice_get-map, get_or_from_slice_get}
 use Rattle.trace_ops.specs.declared.trace.Kind.{Kind}
 use Rattle.trace_ops.specs.declared.trace.Kind.TheVariants.{Int, Ref}
-use Rattle.trace_ops.specs.declared.trace.BoxId.{BoxId}
-use Rattle.trace_ops.specs.declared.trace.Arg.{Arg}
 use Rattle.trace_ops.specs.declared.trace.Arg.TheVariants.{Of, Const, Null, Class, Func, Ptr}
 use Rattle.trace_ops.specs.declared.piece.Val.{Val}
 use Rattle.trace_ops.specs.declared.piece.Val.TheVariants.{Known, Virtual}
@@ -24,9 +22,9 @@ use Rattle.trace_ops.specs.declared.piece.Piece.{Piece}
 use Rattle.trace_ops.specs.Lawful.{IsNumbered}
 use Rattle.trace_ops.specs.Pieces.{guards_of, snapshots_of}
 use Rattle.trace_ops.specs.Snapshots.{IsValue}
-use Rattle.trace_ops.specs.Sound.{AreApart, constants_in, constants_in_val, constants_in_arg, snapshots_in}
+use Rattle.trace_ops.specs.Sound.{AreApart, constants_in, constants_in_val, snapshots_in}
 use Rattle.resume_numbering.specs.Values.{values_in, values_of_store, IsBoxBelow, IsOfKind}
-use Rattle.resume_numbering.specs.Conditions.{CanNumber, HaveOneKind}
+use Rattle.resume_numbering.specs.Conditions.{CanNumber}
 use Rattle.resume_numbering.specs.declared.rows.GuardRow.{GuardRow}
 use Rattle.resume_numbering.specs.declared.rows.ResumeTable.{ResumeTable}
 use Rattle.resume_numbering.specs.Tags.{IsBoxTagBelow}

@@ -179,6 +179,11 @@ place_is table guard k row e is =
     let at = position-Some p table.guards k row e in
     record { place = k; stands = row_at table.guards table.guards k row refl at.0 is; number = eqb-true row.guard guard (ap p is ∙ at.1) }
 
+-- the row at the place that was found in a copy of the rows
+pub row_is : (table : ResumeTable) (guard k : ℕ) (rows : List GuardRow) (row : GuardRow) (o : Option ℕ) → rows ≡ table.guards → o ≡ place_of guard rows → o ≡ Some k → row ≡ slice_index_or rows k row → IsRowOf table guard row
+row_is table guard k rows row o e placed some is =
+    place_is table guard k row (ap (place_of guard) (sym e) ∙ sym placed ∙ some) (is ∙ ap (λ zs. slice_index_or zs k row) e)
+
 pub both_ok : {X Y : Type 0} (r : Result X Y) (P Q : X → Type 0) → IfOk r P → IfOk r Q → IfOk r (λ x. P x × Q x)
 both_ok (Ok x) P Q h k = (h, k)
 both_ok (Err e) P Q h k = tt

@@ -1,12 +1,11 @@
 -- Sound pieces can be numbered.
-use Rattle.std.proofs.Common.{◌≡◌, ℕ, zero, suc, ◌+◌, ◌^◌, ◌<◌, List, [], ◌∷◌, ◌++◌, Option, Some, None, length, map, take, slice_get, refl, sym, ap, subst, ◌∙◌, inl, inr, arith}
+use Rattle.std.proofs.Common.{◌≡◌, ℕ, zero, suc, ◌+◌, ◌^◌, ◌<◌, List, [], ◌∷◌, ◌++◌, Some, length, map, take, slice_get, sym, ap, subst, ◌∙◌, inl, inr, arith}
 use Rattle.std.specs.List.{All, Contains, flat_map, range_with_len}
 use Rattle.std.proofs.lemmas.List.Elements.{All-nil, All-cons, All-head, All-tail, All-append, Contains-append_left, Contains-append_right, Contains-append_cases}
 use Rattle.std.proofs.lemmas.Option.{slice_get-get_or}
 use Rattle.lists.proofs.Alls.{all_from, all_right, all_weaker}
 use Rattle.lists.proofs.Options.{some_same}
 use Rattle.trace_ops.specs.declared.trace.BoxId.{BoxId}
-use Rattle.trace_ops.specs.declared.trace.Arg.{Arg}
 use Rattle.trace_ops.specs.declared.trace.Arg.TheVariants.{Of, Const, Null, Class, Func, Ptr}
 use Rattle.trace_ops.specs.declared.piece.Val.{Val}
 use Rattle.trace_ops.specs.declared.piece.Val.TheVariants.{Known, Virtual}
@@ -17,12 +16,11 @@ use Rattle.trace_ops.specs.declared.piece.Snapshot.{Snapshot}
 use Rattle.trace_ops.specs.declared.piece.OptOp.{OptOp}
 use Rattle.trace_ops.specs.declared.piece.Piece.{Piece}
 use Rattle.trace_ops.specs.declared.table.Table.{Table}
-use Rattle.trace_ops.specs.Kinds.{kind_of_arg}
 use Rattle.trace_ops.specs.Lawful.{IsNumbered}
 use Rattle.trace_ops.specs.Parts.{boxes_of_arg, boxes_of_val, boxes_of}
 use Rattle.trace_ops.specs.Pieces.{results_of, args_of, snapshots_of, used_by, defined_by, defined_before}
 use Rattle.trace_ops.specs.Snapshots.{IsValue, IsSnapshotSound}
-use Rattle.trace_ops.specs.Sound.{snapshots_in, IsFormed}
+use Rattle.trace_ops.specs.Sound.{snapshots_in}
 use Rattle.resume_numbering.specs.Values.{values_of_store, values_in, IsBoxBelow}
 use Rattle.resume_numbering.specs.Conditions.{HaveOneKind, SoundPiecesCanBeNumbered}
 use Rattle.resume_numbering.proofs.ValueBoxes.{snapshot_from, all_flat, flat_parts}

@@ -52,11 +52,11 @@ form_of consts t (Known (Class k)) h = absurd h
 form_of consts t (Known (Func k)) h = absurd h
 form_of consts t (Virtual n) h = virtual n refl h
 
-if_some : (b : Bool) (m x : ℕ) → (if b then Some m else None) ≡ Some x → (b ≡ true) × (m ≡ x)
+pub if_some : (b : Bool) (m x : ℕ) → (if b then Some m else None) ≡ Some x → (b ≡ true) × (m ≡ x)
 if_some true m x e = (refl, unsome m x e)
 if_some false m x e = cc
 
-below_if : (n m : ℕ) → nat_lt n m ≡ true → n < m
+pub below_if : (n m : ℕ) → nat_lt n m ≡ true → n < m
 below_if n m e = ltb-true n m e
 
 small_one : (y z : ℤ) (x : ℕ) → small_index y ≡ Some x → small_index z ≡ Some x → y ≡ z

@@ -2,6 +2,7 @@
 
 ghost use Rattle.resume_numbering.specs.Boxes.{BoxesTellKinds, ReadsOneOfBoxes};
 ghost use Rattle.resume_numbering.specs.Conditions.{SoundPiecesCanBeNumbered};
+ghost use Rattle.resume_numbering.specs.Placed.{RowsHoldSnapshots};
 ghost use Rattle.resume_numbering.specs.Reading.{ReadsOne, CanBeRead, ReadsSnapshots};
 
 /// A lawful table is read at a guard, with the kinds of the boxes, as at most one snapshot.
@@ -30,4 +31,10 @@ pub fn sound_pieces_can_be_numbered()
 pub fn boxes_tell_kinds()
     ensures kinds { BoxesTellKinds }
     ensures one { ReadsOneOfBoxes }
+{}
+
+/// What the row of a guard holds, each tagged number being read by [`crate::value_of`] with boxes of which no two have one
+/// number, and each of the snapshot is one, is the snapshot for which the table stands.
+pub fn rows_hold_snapshots()
+    ensures { RowsHoldSnapshots }
 {}

@@ -1,21 +1,15 @@
-use Rattle.std.proofs.Common.{◌≡◌, ◌∙◌, ℕ, List, Option, Some, length, ap, sym}
-use Rattle.std.specs.Prelude.{slice_index_or}
+use Rattle.std.proofs.Common.{◌≡◌, ◌∙◌, length, ap, sym}
 use Rattle.std.specs.List.{All}
 use Rattle.std.proofs.lemmas.Result.{IfOk-weaker}
 use Rattle.trace_ops.specs.declared.piece.Snapshot.{Snapshot}
 use Rattle.resume_numbering.specs.declared.rows.GuardRow.{GuardRow}
 use Rattle.resume_numbering.specs.declared.rows.PendingRow.{PendingRow}
-use Rattle.resume_numbering.specs.declared.rows.ResumeTable.{ResumeTable}
 use Rattle.resume_numbering.specs.Tags.{IsNoVirtual}
 use Rattle.resume_numbering.specs.Standing.{StandsFor}
-use Rattle.resume_numbering.specs.Reading.{IsRowOf, StandsAt, AreOfKind, place_of}
-use Rattle.resume_numbering.proofs.ReadingLemmas.{is_placed, place_is, all_at, row_readable, both_ok}
+use Rattle.resume_numbering.specs.Reading.{StandsAt, AreOfKind, place_of}
+use Rattle.resume_numbering.proofs.ReadingLemmas.{is_placed, row_is, all_at, row_readable, both_ok}
 use Rattle.resume_numbering.proofs.UniqueLemmas.{reads_one}
 use Rattle.resume_numbering.proofs.reading.frames_of.Goals as goal
-
-row_is : (table : ResumeTable) (guard k : ℕ) (rows : List GuardRow) (row : GuardRow) (o : Option ℕ) → rows ≡ table.guards → o ≡ place_of guard rows → o ≡ Some k → row ≡ slice_index_or rows k row → IsRowOf table guard row
-row_is table guard k rows row o e placed some is =
-    place_is table guard k row (ap (place_of guard) (sym e) ∙ sym placed ∙ some) (is ∙ ap (λ zs. slice_index_or zs k row) e)
 
 pub unreachable-requires : goal.unreachable-requires
 unreachable-requires c =

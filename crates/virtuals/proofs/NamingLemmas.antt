@@ -4,7 +4,7 @@ use Rattle.std.specs.List.{All}
 use Rattle.std.specs.Option.{option_map}
 use Rattle.std.proofs.lemmas.Bool.{cases_lt}
 use Rattle.std.proofs.lemmas.Bool.Decides.{eqb_tells}
-use Rattle.std.proofs.lemmas.List.{get_or-set_same, get_or-set_other, length_push, length-map, take_more}
+use Rattle.std.proofs.lemmas.List.{get_or-set_same, get_or-set_other, length_push, length-map, take_more, at_drop_more}
 use Rattle.trace_ops.specs.declared.trace.Kind.{Kind}
 use Rattle.trace_ops.specs.declared.trace.BoxId.{BoxId}
 use Rattle.trace_ops.specs.declared.trace.Arg.TheVariants as a
@@ -15,7 +15,7 @@ use Rattle.trace_ops.specs.declared.piece.Shape.{Shape}
 use Rattle.trace_ops.specs.Lawful.{IsNumbered}
 use Rattle.virtuals.specs.Shapes.{Has, AreShapes, fresh, zero_of, parts_of, parts_in, instead, renamed, IsLive, IsMade, IsSound}
 use Rattle.virtuals.specs.Order.{IsBelow, AreBelow}
-use Rattle.virtuals.specs.Namings.{naming, namings_in, namings_of, namings, IsAtLeast, Raises, Lowers, AreCounted}
+use Rattle.virtuals.specs.Namings.{naming, namings_in, namings_of, namings, IsAtLeast, Raises, Lowers, AreCounted, counts_without, counts_without_all}
 use Rattle.virtuals.proofs.Sound.{zeros_name_none}
 use Rattle.virtuals.proofs.Marks.{live_below, parts_below}
 use Rattle.virtuals.proofs.Lists.{has_get, all_at}
@@ -314,6 +314,13 @@ pub lower_step : (initial mid new : List ℕ) (parts : List Val) (i : ℕ) (d : 
 lower_step initial mid new parts i d within same had lowers m n w h =
     let sum : n + namings_in m (drop i parts) ≡ n + namings_in m (drop (i + 1) parts) + (naming m (get_or parts i d) + 0) = omega (arith, namings_in-less parts i d m within) in
     lowers m (n + namings_in m (drop (i + 1) parts)) (omega (arith, w, same)) (subst (IsAtLeast (get_or mid m 0)) sum (had m n w h))
+
+pub gone_step : (parts : List Val) (i : ℕ) (d : Val) (mid new all : List ℕ) → i < length parts → counts_without_all (drop i parts) mid ≡ all → new ≡ counts_without (get_or parts i d) mid → counts_without_all (drop (i + 1) parts) new ≡ all
+gone_step parts i d mid new all within had is =
+    ap (counts_without_all (drop (i + 1) parts)) is ∙ sym (at_drop_more (λ (ps : List Val). counts_without_all ps mid) parts i d within) ∙ had
+
+pub gone_done : (parts : List Val) (i : ℕ) (mid all : List ℕ) → length parts ≤ i → counts_without_all (drop i parts) mid ≡ all → mid ≡ all
+gone_done parts i mid all past had = sym (ap (λ (ps : List Val). counts_without_all ps mid) (drop_done parts i past)) ∙ had
 
 pub lower_done : (parts : List Val) (i c m n : ℕ) → length parts ≤ i → IsAtLeast c (n + namings_in m (drop i parts)) → IsAtLeast c n
 lower_done parts i c m n h had =

@@ -1,5 +1,5 @@
 -- How many parts name a virtual object.
-use Rattle.std.specs.Prelude.{◌≡◌, ℕ, ◌+◌, ◌<◌, ◌≤◌, ◌^◌, ◌==◌, ◌⊎◌, if◌then◌else◌, List, [], ◌∷◌, Option, None, Some, length, slice_index}
+use Rattle.std.specs.Prelude.{◌≡◌, ℕ, ◌+◌, ◌-◌, ◌<◌, ◌≤◌, ◌^◌, ◌==◌, ◌&&◌, nat_lt, ◌⊎◌, if◌then◌else◌, List, [], ◌∷◌, Option, None, Some, length, slice_index, slice_set}
 use Rattle.trace_ops.specs.declared.piece.Val.{Val}
 use Rattle.trace_ops.specs.declared.piece.Val.TheVariants as l
 use Rattle.trace_ops.specs.declared.piece.Shape.{Shape}
@@ -32,6 +32,23 @@ Raises old new part = (m n : ℕ) → m < length old → IsAtLeast (slice_index 
 
 abbrev pub Lowers : List ℕ → List ℕ → List Val → Type 0
 Lowers old new parts = (m n : ℕ) → m < length old → IsAtLeast (slice_index old m) (n + namings_in m parts) → IsAtLeast (slice_index new m) n
+
+-- one fewer; the greatest count stays, and so does 0
+abbrev pub lowered_count : ℕ → ℕ
+lowered_count count = if nat_lt 0 count && nat_lt count 4294967295 then count - 1 else count
+
+-- the counts after a part that is gone, after several, and after those of a shape
+abbrev pub counts_without : Val → List ℕ → List ℕ
+counts_without (l.Known x) counts = counts
+counts_without (l.Virtual n) counts = slice_set counts n (lowered_count (slice_index counts n))
+
+abbrev pub counts_without_all : List Val → List ℕ → List ℕ
+counts_without_all [] counts = counts
+counts_without_all (x ∷ xs) counts = counts_without_all xs (counts_without x counts)
+
+abbrev pub counts_without_shape : Option Shape → List ℕ → List ℕ
+counts_without_shape None counts = counts
+counts_without_shape (Some shape) counts = counts_without_all shape.parts counts
 
 -- no virtual object is named by more parts than its count says
 pub record AreCounted (shapes : List (Option Shape)) (counts : List ℕ) : Type 0 where

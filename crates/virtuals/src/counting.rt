@@ -3,7 +3,7 @@
 ghost use Rattle.std.specs.Prelude.{◌≡◌, ℕ, ◌+◌, ◌<◌, [], ◌∷◌, ◌++◌, Some, length, map, slice_index, IfOk, OnOk, OnErr};
 ghost use Rattle.trace_ops.specs.declared.piece.Val.TheVariants.{Virtual};
 ghost use Rattle.virtuals.specs.Order.{IsBelow, AreBelow};
-ghost use Rattle.virtuals.specs.Namings.{namings_in, namings_of, IsAtLeast, Raises, Lowers, AreCounted};
+ghost use Rattle.virtuals.specs.Namings.{namings_in, namings_of, IsAtLeast, Raises, Lowers, AreCounted, lowered_count, counts_without, counts_without_all, counts_without_shape};
 ghost use Rattle.virtuals.specs.Shapes.{AreShapes};
 
 use std::alloc::{AllocError, Global};
@@ -18,7 +18,8 @@ fn raised(count: u32) -> u32
 
 // The count of one fewer.
 fn lowered(count: u32) -> u32
-    ensures { (n : ℕ) → IsAtLeast count (n + 1) → IsAtLeast result n }
+    ensures least { (n : ℕ) → IsAtLeast count (n + 1) → IsAtLeast result n }
+    ensures exactly { result ≡ lowered_count count }
 {
     if 0 < count && count < u32::MAX {
         count - 1
@@ -38,6 +39,7 @@ fn raise(counts: &mut Vec<u32>, id: u32)
 fn lower(counts: &mut Vec<u32>, id: u32)
     requires { id < length counts.old.items }
     ensures lowers { Lowers counts.old.items counts.new.items (Virtual id ∷ []) }
+    ensures exactly { counts.new.items ≡ counts_without (Virtual id) counts.old.items }
     ensures len { length counts.new.items ≡ length counts.old.items }
 {
     counts[id as usize] = lowered(counts[id as usize]);
@@ -59,6 +61,7 @@ pub fn more(counts: &mut Vec<u32>, part: Val)
 pub fn fewer(counts: &mut Vec<u32>, part: Val)
     requires { IsBelow (length counts.old.items) part }
     ensures lowers { Lowers counts.old.items counts.new.items (part ∷ []) }
+    ensures exactly { counts.new.items ≡ counts_without part counts.old.items }
     ensures len { length counts.new.items ≡ length counts.old.items }
 {
     match part {
@@ -83,6 +86,7 @@ fn more_each(counts: &mut Vec<u32>, parts: &[Val])
 fn fewer_each(counts: &mut Vec<u32>, parts: &[Val])
     requires { AreBelow (length counts.old.items) parts.now }
     ensures lowers { Lowers counts.old.items counts.new.items parts.now }
+    ensures exactly { counts.new.items ≡ counts_without_all parts.now counts.old.items }
     ensures len { length counts.new.items ≡ length counts.old.items }
 {
     for part in parts {
@@ -95,6 +99,7 @@ pub fn without(counts: &mut Vec<u32>, shape: &Option<Shape>)
     requires { (s : _) → shape.now ≡ Some s → AreBelow (length counts.old.items) s.parts }
     ensures lowers { (m n : ℕ) → m < length counts.old.items → IsAtLeast (slice_index counts.old.items m) (n + namings_of m shape.now)
         → IsAtLeast (slice_index counts.new.items m) n }
+    ensures exactly { counts.new.items ≡ counts_without_shape shape.now counts.old.items }
     ensures len { length counts.new.items ≡ length counts.old.items }
 {
     match shape {

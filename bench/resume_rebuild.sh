@@ -25,7 +25,7 @@ cat > "$speed/src/main.rt" <<'END'
 //! Finds the numbers of addresses, and rebuilds objects, and prints how long that took.
 #![tactic(auto)]
 
-ghost use Rattle.std.specs.Prelude.{◌≡◌, ◌≤◌, ◌^◌, length, IfOk};
+ghost use Rattle.std.specs.Prelude.{◌≡◌, ◌≤◌, ◌*◌, ◌^◌, length, IfOk};
 
 mod simple;
 
@@ -70,22 +70,25 @@ fn table(alloc: Global) -> std::result::Result<Table, AllocError> {
     })
 }
 
-// Objects of two words each, all over an arena of 16 MiB.
-fn full_words(alloc: Global) -> std::result::Result<Vec<Word>, AllocError>
-    ensures { IfOk result (λ ws. length ws.items ≡ 2097152) }
+// So many objects of two words each.
+fn full_words(alloc: Global, count: usize) -> std::result::Result<Vec<Word>, AllocError>
+    requires { count ≤ 2 ^ 20 }
+    ensures { IfOk result (λ ws. length ws.items ≡ 2 * count) }
 {
-    let mut words = vec![in alloc; 0i64; 2_097_152usize]?;
-    let mut k = 0usize;
-    while k < 2_097_152 {
-        words[k] = 1;
-        k += 2;
+    let mut words = Vec::new(alloc);
+    for k in 0..count {
+        words.push(1)?;
+        words.push(0)?;
     }
     Ok(words)
 }
 
-fn full_arena(alloc: Global) -> std::result::Result<ArenaWords, AllocError> {
-    let words = full_words(alloc)?;
-    Ok(ArenaWords::new(words, 16_777_216))
+// An arena in which they are all.
+fn full_arena(alloc: Global, count: usize) -> std::result::Result<ArenaWords, AllocError>
+    requires { count ≤ 2 ^ 20 }
+{
+    let words = full_words(alloc, count)?;
+    Ok(ArenaWords::new(words, 16 * count as u64))
 }
 
 // How many of 100,000 addresses, far apart, are those of objects.
@@ -94,7 +97,7 @@ fn found(out: &Rebuilt) -> u32 {
     for k in 0..100_000u32 {
         let step = (u64::from(k) * 7_919) % 1_048_576;
         if out.number_of((0x1000_0000 + 16 * step) as i64).is_some() {
-            count += 1;
+            count = count.wrapping_add(1);
         }
     }
     count
@@ -196,7 +199,7 @@ fn time_rebuild(rt: &HostRuntime, t: &Table, table: &ResumeTable) -> Result<()> 
 }
 
 fn time_finding(rt: &HostRuntime, t: &Table) -> Result<()> {
-    let arena = full_arena(rt.alloc())?;
+    let arena = full_arena(rt.alloc(), 1_048_576)?;
     let mut out = Rebuilt::new(rt.alloc())?;
     out.adopt(t)?;
     let start = Instant::now(rt)?;
@@ -218,6 +221,23 @@ fn main(rt: HostRuntime) -> Result<()> {
     }
     Ok(())
 }
+END
+mkdir -p "$speed/proofs/full_words" "$speed/proofs/rebuild_once"
+cat > "$speed/proofs/full_words/Invariants.antt" <<'END'
+use Rattle.std.proofs.Common.{◌≡◌, ◌*◌, length}
+use Rattle.rebuild_speed.proofs.full_words.Given as goal
+
+abbrev pub invariant-loop-k : goal.invariant-loop-k
+invariant-loop-k l = length l.words.items ≡ 2 * l.k
+END
+cat > "$speed/proofs/rebuild_once/Answers.antt" <<'END'
+use Rattle.std.proofs.Common.{◌∙◌, refl, sym, subst}
+use Rattle.trace_ops.specs.declared.table.Table.{Table}
+use Rattle.resume_rebuild.specs.Known.{ShapesAreKnown}
+use Rattle.rebuild_speed.proofs.rebuild_once.Goals as goal
+
+pub rebuild-came-requires-clause-shapes : goal.rebuild-came-requires-clause-shapes
+rebuild-came-requires-clause-shapes c = subst (λ (t : Table). ShapesAreKnown t c.args.table.now 0) (sym (c.in_ok-reserve.ensures.table ∙ c.requires)) (c.if-not-can_rebuild.ensures.shapes refl)
 END
 cd "$speed"
 rt run 2>"$work/log" || { cat "$work/log" >&2; exit 1; }

@@ -1,14 +1,14 @@
 //! The rows of a guard, read without taking memory.
 
-ghost use Rattle.std.specs.Prelude.{◌≡◌, ◌<◌, slice_get, IfSome, IfNone};
+ghost use Rattle.std.specs.Prelude.{◌≡◌, IfSome, IfNone};
 ghost use Rattle.resume_numbering.specs.Boxes.{kind_among, kind_or_integer};
-ghost use Rattle.resume_numbering.specs.Placed.{boxes_among, small_integer as small_with, or_null as or_none, placed_box as box_placed, placed_value};
+ghost use Rattle.resume_numbering.specs.Placed.{boxes_among, or_null as or_none, placed_box as box_placed, placed_value};
 ghost use Rattle.resume_numbering.specs.Reading.{IsRowOf, HasRow};
 
-use crate::reading::place_of;
+use crate::reading::{place_of, small_integer};
 use crate::rows::{GuardRow, ResumeTable};
 use target_base::Place;
-use trace_ops::{Arg, BoxId, Kind, Val, Word};
+use trace_ops::{Arg, BoxId, Kind, Val};
 
 /// The row of a guard, if it has one.
 pub fn row_of<'a>(table: &'a ResumeTable, guard: u32) -> Option<&'a GuardRow>
@@ -40,18 +40,6 @@ fn placed_box(places: &[(BoxId, Place)], number: u32) -> BoxId
     BoxId {
         kind: kind_at(places, number),
         number,
-    }
-}
-
-// The integer with this index modulo 2^30.
-fn small_integer(index: u32) -> Word
-    requires { index < 1073741824 }
-    ensures { result ≡ small_with index }
-{
-    if index < 536_870_912 {
-        Word::from(index)
-    } else {
-        Word::from(index) - 1_073_741_824
     }
 }
 

@@ -6,6 +6,7 @@ ghost use Rattle.resume_numbering.specs.Values.{IsOfKind};
 ghost use Rattle.resume_numbering.specs.Standing.{HasLowerParents, FramesStand, IsFrame, VirtualStands, PendingStands, StandsFor};
 ghost use Rattle.resume_numbering.specs.Leading.{LeadsOnlyTo};
 ghost use Rattle.resume_numbering.specs.Lawful.{IsConstant, IsLawful};
+ghost use Rattle.resume_numbering.specs.Placed.{small_integer as small_with};
 ghost use Rattle.resume_numbering.specs.Reading.{IsRowOf, HasRow, HasKinds, StandsAt, AreOfKind, IsReadable, AreReadable, place_of, KindsOfFrame, KindsOfShape, KindsOfStore, RowIsReadable};
 ghost use Rattle.resume_numbering.specs.declared.rows.FrameRow.{FrameRow};
 ghost use Rattle.trace_ops.specs.declared.piece.Snapshot.{Snapshot};
@@ -16,9 +17,10 @@ use std::alloc::{AllocError, Global};
 use trace_ops::{Arg, BoxId, Kind, List, OptFrame, Pending, Shape, Snapshot, Val, Word};
 
 // The integer with this index modulo 2^30.
-fn small_integer(index: u32) -> Word
+pub(crate) fn small_integer(index: u32) -> Word
     requires { index < 1073741824 }
-    ensures { small_index result ≡ Some index }
+    ensures index { small_index result ≡ Some index }
+    ensures value { result ≡ small_with index }
 {
     if index < 536_870_912 {
         Word::from(index)

@@ -1,6 +1,6 @@
 #!/bin/sh
 # How long numbering the guards of pieces of 2,000 and 16,000 operations takes, on one core, in a built program.
-# A copy of the two crates and a small program over them are made in a temporary folder, built by rt and run there.
+# A copy of the crates and a small program over them are made in a temporary folder, built by rt and run there.
 # Needs rt. Usage: bench/resume_numbering.sh
 set -eu
 top=$(cd "$(dirname "$0")/.." && pwd)
@@ -8,15 +8,12 @@ work=$(mktemp -d)
 trap 'rm -rf "$work"' EXIT
 speed="$work/crates/number_speed"
 mkdir -p "$speed/src" "$speed/proofs"
-for crate in trace_ops resume_numbering; do
+for crate in lists trace_ops target_base resume_numbering; do
     cp -r "$top/crates/$crate" "$work/crates/"
     rm -rf "$work/crates/$crate/must-fail"
+    grep "^$crate:" "$top/crates.txt" >> "$work/crates.txt"
 done
-cat > "$work/crates.txt" <<'END'
-trace_ops: indexmap
-resume_numbering: trace_ops indexmap
-number_speed: trace_ops resume_numbering anyhow
-END
+echo "number_speed: trace_ops resume_numbering anyhow" >> "$work/crates.txt"
 # The test that a piece can be numbered, with its proofs, is that of the crate's own tests.
 cp "$top/crates/resume_numbering/src/tests/fitting.rt" "$speed/src/"
 cp -r "$top/crates/resume_numbering/proofs/tests/fitting" "$speed/proofs/"

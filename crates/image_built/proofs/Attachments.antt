@@ -82,7 +82,7 @@ no_has : {X : Type 0} (xs : List X) (x : X) → xs ≡ [] → Has xs x → ⊥
 no_has {X = X} xs x e h = subst (λ (l : List X). Has l x) e h
 
 module _ (names : TellsNames) (jumps : ChosenJumps) (short : ChosenAreShort) (stays : SoundPiecesStayReady) (set : TraceSet) (whole : List Piece) (other : PieceId → Setting) (loops : List OptTrace) (count : ℕ) (z : Attached set loops count) where
-  abbrev settings : PieceId → Setting
+  abbrev pub settings : PieceId → Setting
   settings = settings_with set loops count z other
 
   abbrev joins : (j : ℕ) (lt : j < count) → Stage set (z.placed j) (z.image j) → Joins set (z.bridge j) (z.pieces j) (z.placed j) (z.image j) (z.image (j + 1))
@@ -142,8 +142,29 @@ module _ (names : TellsNames) (jumps : ChosenJumps) (short : ChosenAreShort) (st
   theirs : Keeps (pieces_in (z.placed count)) whole → (j : ℕ) → j ≤ count → Theirs whole settings (z.placed j)
   theirs keeps j le = back_theirs keeps (count - j) j (omega (arith, le))
 
-  abbrev MadeAt : ℕ → Type 0
+  abbrev pub MadeAt : ℕ → Type 0
   MadeAt j = Made set (record { pieces = whole; settings = settings; bridges = (z.image j).attached }) (map piece_of (z.placed j)) (z.placed j)
+
+  module _ (im : Printed) (printed : IsPrintedWith set loops count z im) where
+    bridges_are : (j : ℕ) → j ≤ count → bridges_at im j ≡ (z.image j).attached
+    bridges_are zero le = sym z.none
+    bridges_are (suc j) le =
+        let lt : j < count = omega (arith, le) in
+        let n : j + 1 ≡ suc j = omega arith in
+        let next = bridges_next im j _ (printed.parts j lt) ∙ ap (λ (l : List ℕ). l ++ z.bridge j ∷ []) (bridges_are j (omega (arith, le))) ∙ sym (z.changed j lt).attached in
+        subst (λ (k : ℕ). bridges_at im k ≡ (z.image k).attached) n next
+
+    pub rows_are : (j : ℕ) → j ≤ count → rows_at im j ≡ (z.image j).exits
+    rows_are zero le = append-nil im.rows ∙ printed.loops_are.rows
+    rows_are (suc j) le =
+        let lt : j < count = omega (arith, le) in
+        let n : j + 1 ≡ suc j = omega arith in
+        let next = rows_next im j _ (printed.parts j lt) ∙ ap (λ (l : List ExitRow). l ++ (z.changed j lt).rows) (rows_are j (omega (arith, le))) ∙ sym (z.changed j lt).exits in
+        subst (λ (k : ℕ). rows_at im k ≡ (z.image k).exits) n next
+
+  -- the rows of the last moment
+  pub exits_are : (z.image count).exits ≡ all_rows (z.placed count)
+  exits_are = (stage count (omega arith)).here.exits
 
   module _ (keeps : Keeps (pieces_in (z.placed count)) whole) where
     first_made : MadeAt 0
@@ -168,7 +189,7 @@ module _ (names : TellsNames) (jumps : ChosenJumps) (short : ChosenAreShort) (st
         subst (λ (l : List Placed). Made set (record { pieces = whole; settings = settings; bridges = (z.image (j + 1)).attached }) (map piece_of l) l) (sym (z.next j lt))
         (made_behind j lt (stage j (omega (arith, lt))) m)
 
-    made : (j : ℕ) → j ≤ count → MadeAt j
+    pub made : (j : ℕ) → j ≤ count → MadeAt j
     made zero le = first_made
     made (suc j) le = (let n : j + 1 ≡ suc j = omega arith in subst MadeAt n (next_made j (omega (arith, le)) (made j (omega (arith, le)))))
 
@@ -177,22 +198,6 @@ module _ (names : TellsNames) (jumps : ChosenJumps) (short : ChosenAreShort) (st
     module _ (host : Host) (r : Relies host) (enters : Enters) (serves : HostServes host set.table) (starts : HostStarts host set) (im : Printed) (printed : IsPrintedWith set loops count z im) where
       part_at : (j : ℕ) (lt : j < count) → Part
       part_at j lt = part_of set (z.bridge j) (z.pieces j) (z.image j) (z.image (j + 1)) (z.changed j lt)
-
-      bridges_are : (j : ℕ) → j ≤ count → bridges_at im j ≡ (z.image j).attached
-      bridges_are zero le = sym z.none
-      bridges_are (suc j) le =
-          let lt : j < count = omega (arith, le) in
-          let n : j + 1 ≡ suc j = omega arith in
-          let next = bridges_next im j _ (printed.parts j lt) ∙ ap (λ (l : List ℕ). l ++ z.bridge j ∷ []) (bridges_are j (omega (arith, le))) ∙ sym (z.changed j lt).attached in
-          subst (λ (k : ℕ). bridges_at im k ≡ (z.image k).attached) n next
-
-      rows_are : (j : ℕ) → j ≤ count → rows_at im j ≡ (z.image j).exits
-      rows_are zero le = append-nil im.rows ∙ printed.loops_are.rows
-      rows_are (suc j) le =
-          let lt : j < count = omega (arith, le) in
-          let n : j + 1 ≡ suc j = omega arith in
-          let next = rows_next im j _ (printed.parts j lt) ∙ ap (λ (l : List ExitRow). l ++ (z.changed j lt).rows) (rows_are j (omega (arith, le))) ∙ sym (z.changed j lt).exits in
-          subst (λ (k : ℕ). rows_at im k ≡ (z.image k).exits) n next
 
       -- an attachment, by the part that is printed of it
       abbrev AttachesBy : ℕ → Part → Type 0
@@ -210,10 +215,10 @@ module _ (names : TellsNames) (jumps : ChosenJumps) (short : ChosenAreShort) (st
           let behind = made_behind j lt st m in
           let one = is_attached host r set whole settings (z.bridge j) (z.pieces j) (z.placed j) old new y m behind serves c in
           let is = λ (bs : List ℕ) (rows more : List ExitRow) (l : List Placed). IsAttached host r set whole settings (z.bridge j) (z.pieces j) (z.placed j) old new y m behind serves c bs rows more l in
-          let rows : all_rows (z.placed j) ≡ rows_at im j = sym (rows_are j (omega (arith, lt)) ∙ st.here.exits) in
+          let rows : all_rows (z.placed j) ≡ rows_at im j = sym (rows_are im printed j (omega (arith, lt)) ∙ st.here.exits) in
           let more : all_rows news ≡ c.rows = sym (new_rows host r set whole settings (z.bridge j) (z.pieces j) (z.placed j) old new y m behind serves c) in
           subst (is (bridges_at im j) (rows_at im j) c.rows) (sym (z.next j lt))
-          (subst (λ (bs : List ℕ). is bs (rows_at im j) c.rows (after set (z.bridge j) news (z.placed j))) (sym (bridges_are j (omega (arith, lt))))
+          (subst (λ (bs : List ℕ). is bs (rows_at im j) c.rows (after set (z.bridge j) news (z.placed j))) (sym (bridges_are im printed j (omega (arith, lt))))
           (subst (λ (l : List ExitRow). is old.attached l c.rows (after set (z.bridge j) news (z.placed j))) rows
           (subst (λ (l : List ExitRow). is old.attached (all_rows (z.placed j)) l (after set (z.bridge j) news (z.placed j))) more one)))
 

@@ -25,5 +25,7 @@ mod Shortening
 mod Starting
 mod Standing
 mod Attachments
+mod Returning
+mod Printing
 mod Alike
 mod Served

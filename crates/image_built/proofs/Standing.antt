@@ -122,7 +122,7 @@ made_of names jumps few stays set whole settings loops image z keeps settle =
       settled = settle;
     }
 
-own_made : TellsNames → ChosenJumps → ChosenAreShort → SoundPiecesStayReady → (set : TraceSet) (whole : List Piece) (other : PieceId → Setting) (loops : List OptTrace) (image : Imaged) (z : Compiled set loops image) → Keeps (all_pieces loops) whole
+pub own_made : TellsNames → ChosenJumps → ChosenAreShort → SoundPiecesStayReady → (set : TraceSet) (whole : List Piece) (other : PieceId → Setting) (loops : List OptTrace) (image : Imaged) (z : Compiled set loops image) → Keeps (all_pieces loops) whole
     → Made set (record { pieces = whole; settings = settings_from 0 z.made.placed other; bridges = [] }) (all_pieces loops) z.made.placed
 own_made names jumps few stays set whole other loops image z keeps =
     made_of names jumps few stays set whole (settings_from 0 z.made.placed other) loops image z keeps (settled names (all_pieces loops) z.made.placed other z.made.pieces (loops_once names set.traces loops z.can.each))

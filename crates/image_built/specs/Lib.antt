@@ -3,3 +3,4 @@ pub mod Laws
 pub mod Attached
 pub mod Running
 pub mod Hosting
+pub mod Printing

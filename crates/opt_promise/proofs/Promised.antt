@@ -1,8 +1,7 @@
 -- The promise, from the laws that it rests on.
-use Rattle.std.proofs.Common.{◌≡◌, ◌⊎◌, inl, inr, ℕ, zero, suc, ◌+◌, ◌*◌, ◌<◌, ◌≤◌, Bool, true, false, if◌then◌else◌, Option, Some, None, List, [], ◌∷◌, length, map, slice_get, max, refl, sym, ap, ◌∙◌, subst, arith}
+use Rattle.std.proofs.Common.{◌≡◌, ◌⊎◌, inl, inr, ℕ, zero, suc, ◌+◌, ◌<◌, ◌≤◌, Bool, true, false, if◌then◌else◌, Option, Some, None, List, [], ◌∷◌, length, slice_get, refl, ap, ◌∙◌, subst, arith}
 use Rattle.std.specs.Prelude.{IsSomeAnd}
 use Rattle.lists.proofs.Options.{some_same, none_some}
-use Rattle.trace_ops.specs.declared.trace.BoxId.{BoxId}
 use Rattle.trace_ops.specs.declared.trace.Trace.{Trace}
 use Rattle.trace_ops.specs.declared.trace.TraceSet.{TraceSet}
 use Rattle.trace_ops.specs.declared.piece.PieceId.{PieceId}
@@ -19,13 +18,13 @@ use Rattle.trace_meaning.specs.Laws.{longest, most_operations, LegsAreShort}
 use Rattle.trace_meaning.specs.Recorded.{recorded, first_world}
 use Rattle.trace_meaning.specs.RunLaws.{IsShort}
 use Rattle.trace_meaning.specs.Sound.{CanBegin, LawfulLegsCanBegin}
-use Rattle.trace_meaning.specs.Starting.{Starts, StartsLoop}
-use Rattle.opt_meaning.specs.Admits.{plain_entry}
+use Rattle.trace_meaning.specs.Starting.{StartsLoop}
 use Rattle.opt_meaning.specs.Composing.{IsWrong, Paired, EndedAlike}
-use Rattle.opt_meaning.specs.Laws.{PiecesCompose, MeetingPiecesCompose, PiecesAreShort, EndsForward, EndsBackward, StartsArePaired}
-use Rattle.opt_meaning.specs.Meeting.{Made, Meet, EndsOnce, made_at, pieces_of, entry_of, joined}
+use Rattle.opt_meaning.specs.Laws.{PiecesCompose, MeetingPiecesCompose, PiecesAreShort, EndsForward, EndsBackward, LegsForward, LegsBackward, CallsBackward, StartsArePaired}
+use Rattle.opt_meaning.specs.Meeting.{Made, EndsOnce, made_at, pieces_of, entry_of, joined}
 use Rattle.opt_meaning.specs.Pieces.{pieces, piece_at, same_piece}
 use Rattle.opt_meaning.specs.Showing.{RebuiltSame, EndsShowAlike, pieces_shown}
+use Rattle.opt_promise.specs.Legs.{MadePiecesPromiseLegs}
 use Rattle.opt_promise.specs.Promise.{AreAt, BeginsPlainly, first_piece, AreMade, operations, IsStart, Promise, MadePiecesPromise}
 
 -- Pieces and operations
@@ -129,3 +128,23 @@ module _ (same : RebuiltSame) (forward : EndsForward) (backward : EndsBackward) 
 
 pub promised : RebuiltSame → EndsForward → EndsBackward → EndsShowAlike → PiecesAreShort → MeetingPiecesCompose → StartsArePaired → LawfulLegsCanBegin → LegsAreShort → MadePiecesPromise
 promised same forward backward show few compose starts begin short set bridges ms range well words h = promise same forward backward show few compose starts begin short set bridges ms range well words h
+
+-- In legs
+
+pub promised_legs : LegsForward → LegsBackward → CallsBackward → RebuiltSame → EndsForward → EndsBackward → EndsShowAlike → PiecesAreShort → MeetingPiecesCompose → StartsArePaired → LawfulLegsCanBegin → LegsAreShort → MadePiecesPromiseLegs
+promised_legs leg_forward leg_backward had same forward backward show few compose starts begin short set bridges ms range well words h = record {
+  forward = λ p inputs answers cuts start at n r l over right.
+      let w = first_world set.table answers in
+      leg_forward set (pieces_of ms) cuts (joined ms) (composed same forward backward show few compose starts begin short set bridges ms range well words h cuts at) p inputs w (first_piece p) inputs w
+      (paired same forward backward show few compose starts begin short set bridges ms range well words h p inputs answers cuts start at) n r l over right;
+  backward = λ p inputs answers cuts start at c q x over n room.
+      let w = first_world set.table answers in
+      leg_backward set (pieces_of ms) cuts (joined ms) (composed same forward backward show few compose starts begin short set bridges ms range well words h cuts at) (most_operations set)
+      (traces_short same forward backward show few compose starts begin short set bridges ms range well words h p inputs answers cuts start at) p inputs w (first_piece p) inputs w
+      (paired same forward backward show few compose starts begin short set bridges ms range well words h p inputs answers cuts start at) c q x over n room;
+  calls = λ p inputs answers cuts start at m n room.
+      let w = first_world set.table answers in
+      had set (pieces_of ms) cuts (joined ms) (composed same forward backward show few compose starts begin short set bridges ms range well words h cuts at) (most_operations set)
+      (traces_short same forward backward show few compose starts begin short set bridges ms range well words h p inputs answers cuts start at) p inputs w (first_piece p) inputs w
+      (paired same forward backward show few compose starts begin short set bridges ms range well words h p inputs answers cuts start at) m n room;
+}

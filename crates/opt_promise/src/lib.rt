@@ -3,4 +3,4 @@
 
 mod laws;
 
-pub use laws::made_pieces_promise;
+pub use laws::{made_pieces_promise, made_pieces_promise_legs};

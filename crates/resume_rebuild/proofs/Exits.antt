@@ -161,7 +161,7 @@ module _ (t : Table) (objects virtuals : ℕ) (many : length t.prebuilts ≤ obj
         All-cons (λ (q : Pending). IsNamed objects virtuals q.value) p ps (named_one p.value (All-head (λ (q : Pending). IsBelow virtuals q.value) p ps below) named.2 (all_right ArgHasWord (constants_in_arg p.base) (constants_in_val p.value) own)) more.1,
       )
 
-can_rebuild : (t : Table) (objects : ℕ) (snap : Snapshot) → length t.prebuilts ≤ objects → IsTableInRange t → IsSnapshotSound t snap → NamesSnapshot t snap → All ArgHasWord (constants_in snap) → CanRebuild t objects snap
+pub can_rebuild : (t : Table) (objects : ℕ) (snap : Snapshot) → length t.prebuilts ≤ objects → IsTableInRange t → IsSnapshotSound t snap → NamesSnapshot t snap → All ArgHasWord (constants_in snap) → CanRebuild t objects snap
 can_rebuild t objects snap many range sound names words =
     let m = length snap.shapes in
     let frames = flat_map (λ (f : OptFrame). flat_map constants_in_val f.slots) snap.frames in

@@ -4,12 +4,14 @@ use Rattle.std.specs.List.{All}
 use Rattle.trace_ops.specs.Constants.{ArgHasWord}
 use Rattle.trace_ops.specs.InRange.{IsTableInRange}
 use Rattle.trace_ops.specs.Parts.{parts_of}
+use Rattle.trace_ops.specs.Snapshots.{IsSnapshotSound, NamesSnapshot}
 use Rattle.trace_ops.specs.Sound.{AreApart, IsFormed, constants_in}
 use Rattle.trace_ops.specs.declared.trace.BoxId.{BoxId}
 use Rattle.trace_ops.specs.declared.trace.TraceSet.{TraceSet}
 use Rattle.trace_ops.specs.declared.table.Table.{Table}
 use Rattle.trace_ops.specs.declared.piece.Piece.{Piece}
 use Rattle.trace_ops.specs.declared.piece.PieceId.{PieceId}
+use Rattle.trace_ops.specs.declared.piece.Snapshot.{Snapshot}
 use Rattle.target_base.specs.declared.place.Place.{Place}
 use Rattle.arena_objects.specs.Spots.{ListsItsFields}
 use Rattle.resume_numbering.specs.declared.rows.ResumeTable.{ResumeTable}
@@ -40,3 +42,9 @@ FormedPiecesRebuild =
     → All ArgHasWord (constants_in g.snap) → length set.table.prebuilts ≤ objects
     → AreApart (map (λ (q : BoxId × Place). q.0.number) places) → All (HasEach places) (parts_of g.snap)
     → MayRebuild set.table table g places objects
+
+-- a sound snapshot that names rows of the table, and whose integers are words, can be rebuilt over its prebuilt objects and more
+abbrev pub SoundSnapshotsRebuild : Type 0
+SoundSnapshotsRebuild =
+    (t : Table) (snap : Snapshot) (objects : ℕ) → IsTableInRange t → IsSnapshotSound t snap → NamesSnapshot t snap
+    → All ArgHasWord (constants_in snap) → length t.prebuilts ≤ objects → CanRebuild t objects snap

@@ -3,7 +3,7 @@
 ghost use Rattle.resume_rebuild.specs.Laws.{RebuildsWhatIsMeant, RebuildsFromParts, TakesWhatIsAsked};
 ghost use Rattle.resume_rebuild.specs.Joint.{GivesWhatIsMeant};
 ghost use Rattle.resume_rebuild.specs.Guarding.{PlacesTellKinds};
-ghost use Rattle.resume_rebuild.specs.Exits.{FormedPiecesRebuild};
+ghost use Rattle.resume_rebuild.specs.Exits.{FormedPiecesRebuild, SoundSnapshotsRebuild};
 
 use arena_objects::{
     addresses_are_apart, allocations_stand, bytes_are_taken, prebuilts_stand, spots_lie,
@@ -39,3 +39,8 @@ pub fn formed_pieces_rebuild()
     prebuilts_stand();
     equality_decides();
 }
+
+/// A sound snapshot whose integers are words can be rebuilt over the prebuilt objects of its table.
+pub fn sound_snapshots_rebuild()
+    ensures { SoundSnapshotsRebuild }
+{}

@@ -12,5 +12,5 @@ mod storing;
 mod words;
 
 pub use arena_objects::Full;
-pub use laws::{formed_pieces_rebuild, rebuilds_what_is_meant};
+pub use laws::{formed_pieces_rebuild, rebuilds_what_is_meant, sound_snapshots_rebuild};
 pub use rebuilt::{Rebuilt, rebuild};

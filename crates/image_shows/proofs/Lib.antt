@@ -1,0 +1,5 @@
+mod Naming
+mod Rebuilding
+mod Snapshots
+mod Kept
+mod Sessions

@@ -46,7 +46,7 @@ some_same x y e = cc
 pub ran_none : (i limit : ℕ) (old : Sessioned) → MayMake i limit old → Ran i old old 0 limit
 ran_none i limit old may = record {
   events = λ im s h. (s, Done s, h);
-  others = record { set = refl; opt = refl; image = refl; arena_bytes = refl; count = refl; others = λ j e. refl };
+  others = record { set = refl; optimised = refl; image = refl; arena_bytes = refl; count = refl; others = λ j e. refl };
   may = λ a at. (let h = may a at in omega (arith, h));
   made = λ x y p q. (let e : y.machine.instructions ≡ x.machine.instructions = ap (λ (z : Active). z.machine.instructions) (some_same y x (sym q ∙ p)) in omega (arith, e));
   given = λ x y p q. subst (KeepsGiven x) (some_same x y (sym p ∙ q)) (record { trace = refl; inputs = refl; answers = refl; cuts = refl });
@@ -66,7 +66,7 @@ made_more i n old cur next x within all made going p q at bt =
 others_then : (i : ℕ) (a b c : Sessioned) → OthersStay i a b → OthersStay i b c → OthersStay i a c
 others_then i a b c x y = record {
   set = y.set ∙ x.set;
-  opt = y.opt ∙ x.opt;
+  optimised = y.optimised ∙ x.optimised;
   image = y.image ∙ x.image;
   arena_bytes = y.arena_bytes ∙ x.arena_bytes;
   count = y.count ∙ x.count;
@@ -75,9 +75,9 @@ others_then i a b c x y = record {
 
 same_host : (i : ℕ) (a b : Sessioned) → OthersStay i a b → host_in b ≡ host_in a
 same_host i a b x =
-    ap (λ s. host_of s (all_pieces b.opt) b.arena_bytes) x.set
-    ∙ ap (λ o. host_of a.set (all_pieces o) b.arena_bytes) x.opt
-    ∙ ap (λ n. host_of a.set (all_pieces a.opt) n) x.arena_bytes
+    ap (λ s. host_of s (all_pieces b.optimised.traces) b.arena_bytes) x.set
+    ∙ ap (λ o. host_of a.set (all_pieces o.traces) b.arena_bytes) x.optimised
+    ∙ ap (λ n. host_of a.set (all_pieces a.optimised.traces) n) x.arena_bytes
 
 given_then : (a b c : Active) → KeepsGiven a b → KeepsGiven b c → KeepsGiven a c
 given_then a b c x y = record { trace = y.trace ∙ x.trace; inputs = y.inputs ∙ x.inputs; answers = y.answers ∙ x.answers; cuts = y.cuts ∙ x.cuts }

@@ -1,4 +1,4 @@
--- Each row of a compiled image tells what is shown.
+-- Each row of an image tells what is shown.
 use Rattle.std.proofs.Common.{◌≡◌, ℕ, ◌+◌, ◌-◌, Bool, true, false, cond, ◌==◌, List, [], ◌∷◌, ◌++◌, Option, Some, None, length, refl, ap, sym, ◌∙◌, subst, arith, inl, inr}
 use Rattle.std.specs.Prelude.{slice_get, ◌↔◌, IsTrue}
 use Rattle.std.specs.List.{Contains, flat_map}
@@ -16,7 +16,6 @@ use Rattle.trace_ops.specs.declared.piece.PieceId.{PieceId}
 use Rattle.trace_ops.specs.declared.piece.Snapshot.{Snapshot}
 use Rattle.trace_ops.specs.declared.piece.OptOp.{OptOp}
 use Rattle.trace_ops.specs.declared.piece.OptOp.TheVariants as opt
-use Rattle.trace_ops.specs.declared.piece.OptTrace.{OptTrace}
 use Rattle.trace_ops.specs.declared.piece.Piece.{Piece}
 use Rattle.trace_meaning.specs.Boxes.{BoxesDecide}
 use Rattle.guard_exit.specs.declared.row.ExitRow.{ExitRow}
@@ -27,9 +26,11 @@ use Rattle.resume_rebuild.specs.Guarding.{PlacesTellKinds}
 use Rattle.session_host.specs.Showing.{finish_of}
 use Rattle.bridge_patch.specs.declared.image.PieceHere.{PieceHere}
 use Rattle.bridge_patch.specs.Pieces.{Placed, rows_of_op, all_rows, boxes_at, finished_boxes}
-use Rattle.bridge_patch.specs.Image.{Imaged, AreHere, IsHere, CanCompile, IsImage, label_in}
-use Rattle.run_session.specs.Keeping.{RebuildsBy, Serves}
-use Rattle.run_session.proofs.Served.{TellsNames, AreOnce, piece_of, each_of, heres_once, loops_once, has_of, contains_of}
+use Rattle.bridge_patch.specs.Image.{Imaged, AreHere, IsHere}
+use Rattle.opt_set.specs.Optimised.{Optimised, OptimisedAreSound}
+use Rattle.set_in_image.specs.Placing.{IsPlaced}
+use Rattle.run_session.specs.Keeping.{RebuildsBy, Serves, IsServed}
+use Rattle.run_session.proofs.Served.{TellsNames, AreOnce, Standing, standing, served, piece_of, each_of, heres_once, has_of, contains_of}
 use Rattle.run_session.proofs.Rows.{piece_of_row, op_of_row, ops_at_once}
 use Rattle.run_session.proofs.Parts.{UsesSnapshot, each_placed, parts_apart}
 use Rattle.run_session.proofs.Rebuilds.{rebuilds_by}
@@ -152,24 +153,29 @@ module _ (decide : BoxesDecide) (kinds : PlacesTellKinds) (set : TraceSet) (rang
 
 -- ---- the image
 
-known_piece : TellsNames → (set : TraceSet) (loops : List OptTrace) (registers : ℕ) (image : Imaged) → CanCompile set loops registers → (made : IsImage set (all_pieces loops) image) (pl : Placed) → Has made.placed pl → KnownPiece set (all_pieces loops) image.pieces pl
-known_piece names set loops registers image can made pl h =
-    let there : Has (all_pieces loops) pl.piece = subst (λ (l : List Piece). Has l pl.piece) made.pieces (has_map piece_of made.placed pl h) in
-    let once = loops_once names set.traces loops can.each in
-    let r = here_of made.placed image.pieces pl made.heres h in record {
-      label_of = label_in (all_pieces loops);
-      formed = (each_of (IsSound set (label_in (all_pieces loops))) (all_pieces loops) pl.piece can.sound there).formed;
-      ops = ops_at_once names (all_pieces loops) pl.piece once there;
+known_piece : TellsNames → (set : TraceSet) (ps : List Piece) (image : Imaged) → (s : Standing set ps image) (pl : Placed) → Has s.placed pl → KnownPiece set ps image.pieces pl
+known_piece names set ps image s pl h =
+    let there : Has ps pl.piece = subst (λ (l : List Piece). Has l pl.piece) s.pieces (has_map piece_of s.placed pl h) in
+    let r = here_of s.placed image.pieces pl s.heres h in record {
+      label_of = s.label_of;
+      formed = (each_of (IsSound set s.label_of) ps pl.piece s.sound there).formed;
+      ops = ops_at_once names ps pl.piece s.once there;
       here = r.0;
       there = r.1;
       is = r.2;
-      once = λ x c e. heres_once names made.placed image.pieces r.0 x (subst AreOnce (sym made.pieces) once) made.heres r.1 (has_of image.pieces x c) (r.2.id ∙ sym e);
+      once = λ x c e. heres_once names s.placed image.pieces r.0 x (subst AreOnce (sym s.pieces) s.once) s.heres r.1 (has_of image.pieces x c) (r.2.id ∙ sym e);
     }
 
-pub rows_serve : TellsNames → BoxesDecide → PlacesTellKinds → (set : TraceSet) (loops : List OptTrace) (registers : ℕ) (image : Imaged) → CanCompile set loops registers → IsImage set (all_pieces loops) image
-    → (row : ExitRow) → Contains image.exits row → Serves set.table (all_pieces loops) image.pieces row row.guard
-rows_serve names decide kinds set loops registers image can made row c =
-    let w : Has (all_rows made.placed) row = subst (λ (l : List ExitRow). Has l row) made.exits (has_of image.exits row c) in
-    let p = piece_of_row made.placed row w in
+rows_serve : TellsNames → BoxesDecide → PlacesTellKinds → (set : TraceSet) (ps : List Piece) (image : Imaged) → Standing set ps image
+    → (row : ExitRow) → Contains image.exits row → Serves set.table ps image.pieces row row.guard
+rows_serve names decide kinds set ps image s row c =
+    let w : Has (all_rows s.placed) row = subst (λ (l : List ExitRow). Has l row) s.exits (has_of image.exits row c) in
+    let p = piece_of_row s.placed row w in
     let o = op_of_row p.pl.setting.at p.pl.piece.id _ p.pl.exit 0 p.pl.piece.ops row p.has in
-    op_serves decide kinds set can.range.table (all_pieces loops) image.pieces p.pl (known_piece names set loops registers image can made p.pl p.there) o.op o.exit o.place row o.there o.has
+    op_serves decide kinds set s.range ps image.pieces p.pl (known_piece names set ps image s p.pl p.there) o.op o.exit o.place row o.there o.has
+
+-- the pieces of an optimised set are served in their image
+pub placed_serves : TellsNames → BoxesDecide → PlacesTellKinds → OptimisedAreSound → (set : TraceSet) (o : Optimised) (image : Imaged) → IsPlaced set o image → IsServed set.table (all_pieces o.traces) image
+placed_serves names decide kinds sounds set o image p =
+    let s = standing names sounds set o image p in
+    served names set (all_pieces o.traces) image s (rows_serve names decide kinds set (all_pieces o.traces) image s)

@@ -5,13 +5,13 @@ use Rattle.std.specs.List.{All, AllZip}
 use Rattle.std.proofs.lemmas.List.{length-map}
 use Rattle.lists.proofs.Zips.{zip_push}
 use Rattle.trace_ops.specs.declared.trace.TraceSet.{TraceSet}
-use Rattle.trace_ops.specs.declared.piece.OptTrace.{OptTrace}
 use Rattle.trace_meaning.specs.declared.value.Value.{Value}
 use Rattle.trace_meaning.specs.declared.call.Answer.{Answer}
 use Rattle.trace_meaning.specs.Starting.{Starts}
 use Rattle.arena_objects.specs.Starting.{first_words}
 use Rattle.opt_meaning.specs.Pieces.{all_pieces, preamble}
 use Rattle.bridge_patch.specs.Image.{Imaged, entry_in}
+use Rattle.opt_set.specs.Optimised.{Optimised}
 use Rattle.image_runs.specs.Printed.{Printed, bridges_at}
 use Rattle.image_runs.specs.Session.{Activation, Session, first}
 use Rattle.session_host.specs.Hosting.{IsStarted}
@@ -79,16 +79,16 @@ fresh_first set image bytes trace inputs answers k b = record {
   bytes = ap (λ l. taken_by k.machine.arena.taken l - k.first_taken) (b.kept.last b.going) ∙ none_taken k.machine.arena.taken k.first_taken (first_taken_is set bytes trace (entry_in image.pieces (preamble trace)) inputs k.machine b.started ∙ sym b.kept.first);
 }
 
-pub start_is : (set : TraceSet) (opt : List OptTrace) (image : Imaged) (bytes : ℕ) (acts : List Kept) (k : Kept) (trace i : ℕ) (inputs : List Value) (answers : List Answer)
+pub start_is : (set : TraceSet) (o : Optimised) (image : Imaged) (bytes : ℕ) (acts : List Kept) (k : Kept) (trace i : ℕ) (inputs : List Value) (answers : List Answer)
     → Starts set trace inputs → i ≡ length acts → length acts < 16 → length answers ≤ 4096 → Begins set image bytes trace inputs answers k
-    → IsStart trace inputs answers (seen_session set opt image bytes acts) (seen_session set opt image bytes (acts ++ k ∷ [])) i
-start_is set opt image bytes acts k trace i inputs answers fit number few answers_few b = record {
+    → IsStart trace inputs answers (seen_session set o image bytes acts) (seen_session set o image bytes (acts ++ k ∷ [])) i
+start_is set o image bytes acts k trace i inputs answers fit number few answers_few b = record {
   fit = fit;
   number = number ∙ sym (length-map acts seen_of);
   few = omega (arith, number, few);
   answers_few = answers_few;
   set = refl;
-  opt = refl;
+  optimised = refl;
   image = refl;
   arena_bytes = refl;
   count = ap length (map-push seen_of acts k) ∙ length-push (map seen_of acts) (seen_of k);
@@ -101,7 +101,7 @@ start_is set opt image bytes acts k trace i inputs answers fit number few answer
     last : slice_get (map seen_of (acts ++ k ∷ [])) i ≡ Some (seen_of k)
     last = ap (λ l. slice_get l i) (map-push seen_of acts k) ∙ get-last (map seen_of acts) (seen_of k) i (number ∙ sym (length-map acts seen_of))
 
-    begins : StartsWith trace inputs answers (seen_session set opt image bytes acts) (seen_session set opt image bytes (acts ++ k ∷ []))
+    begins : StartsWith trace inputs answers (seen_session set o image bytes acts) (seen_session set o image bytes (acts ++ k ∷ []))
     begins im s h entry there =
         let x = first im s.parts trace inputs answers k.machine in
         let t = record s { activations = s.activations ++ x ∷ [] } in

@@ -5,8 +5,8 @@ use Rattle.std.specs.List.{All, AllZip}
 use Rattle.std.proofs.lemmas.List.{length-map}
 use Rattle.std.proofs.lemmas.List.Elements.{All-cons, All-head, All-tail}
 use Rattle.trace_ops.specs.declared.trace.TraceSet.{TraceSet}
-use Rattle.trace_ops.specs.declared.piece.OptTrace.{OptTrace}
 use Rattle.bridge_patch.specs.Image.{Imaged}
+use Rattle.opt_set.specs.Optimised.{Optimised}
 use Rattle.run_session.specs.declared.now.Now.{Now}
 use Rattle.run_session.specs.declared.now.Now.TheVariants as now
 use Rattle.lists.proofs.Zips.{zip_first, zip_set}
@@ -25,7 +25,7 @@ use Rattle.run_session.proofs.Lists.{map-set, get_some, get-map, get-set, get-ot
 abbrev pub with_one : ℕ → Active → Sessioned → Sessioned
 with_one i b s = record s { activations = slice_set s.activations i b }
 
-pub steps_once : (old : Sessioned) (i : ℕ) (a b : Active) → slice_get old.activations i ≡ Some a → MakesEvent old.set (all_pieces old.opt) old.image.bytes old.image.exits a b → StepsOnce i old (with_one i b old)
+pub steps_once : (old : Sessioned) (i : ℕ) (a b : Active) → slice_get old.activations i ≡ Some a → MakesEvent old.set (all_pieces old.optimised.traces) old.image.bytes old.image.exits a b → StepsOnce i old (with_one i b old)
 steps_once old i a b at makes im s h =
     let beside = zip_first (Tells old.set.table) old.activations s.activations h.each i a at in
     let made = makes old.arena_bytes beside.0 beside.2 in
@@ -47,7 +47,7 @@ steps_once old i a b at makes im s h =
 pub others_stay : (old : Sessioned) (i : ℕ) (b : Active) → OthersStay i old (with_one i b old)
 others_stay old i b = record {
   set = refl;
-  opt = refl;
+  optimised = refl;
   image = refl;
   arena_bytes = refl;
   count = length-set old.activations i b;
@@ -74,8 +74,8 @@ given_stays old i a b lt at given p q pa qb =
 
 -- ---- of a session as it is kept
 
-abbrev pub seen_session : TraceSet → List OptTrace → Imaged → ℕ → List Kept → Sessioned
-seen_session set opt image bytes acts = record { set = set; opt = opt; image = image; arena_bytes = bytes; activations = map seen_of acts }
+abbrev pub seen_session : TraceSet → Optimised → Imaged → ℕ → List Kept → Sessioned
+seen_session set o image bytes acts = record { set = set; optimised = o; image = image; arena_bytes = bytes; activations = map seen_of acts }
 
 -- all that a step promises
 pub record Stepped (i : ℕ) (old new : Sessioned) (x : Now) : Type 0 where
@@ -86,23 +86,23 @@ pub record Stepped (i : ℕ) (old new : Sessioned) (x : Now) : Type 0 where
   pub given : GivenStays i old new
   pub ended : EndedStays i old new
 
-pub stepped : (set : TraceSet) (opt : List OptTrace) (image : Imaged) (bytes : ℕ) (acts : List Kept) (i : ℕ) (k after : Kept) (x : Now)
-    → i < length acts → k ≡ slice_index_or acts i k → MakesEvent set (all_pieces opt) image.bytes image.exits (seen_of k) (seen_of after) → MakesOne k.machine.instructions after.machine.instructions x → KeepsGiven (seen_of k) (seen_of after) → (k.stands ≢ now.Going → after ≡ k) → after.stands ≡ x
-    → Stepped i (seen_session set opt image bytes acts) (seen_session set opt image bytes (slice_set acts i after)) x
-stepped set opt image bytes acts i k after x lt is makes one given ended stands =
-    let old = seen_session set opt image bytes acts in
+pub stepped : (set : TraceSet) (o : Optimised) (image : Imaged) (bytes : ℕ) (acts : List Kept) (i : ℕ) (k after : Kept) (x : Now)
+    → i < length acts → k ≡ slice_index_or acts i k → MakesEvent set (all_pieces o.traces) image.bytes image.exits (seen_of k) (seen_of after) → MakesOne k.machine.instructions after.machine.instructions x → KeepsGiven (seen_of k) (seen_of after) → (k.stands ≢ now.Going → after ≡ k) → after.stands ≡ x
+    → Stepped i (seen_session set o image bytes acts) (seen_session set o image bytes (slice_set acts i after)) x
+stepped set o image bytes acts i k after x lt is makes one given ended stands =
+    let old = seen_session set o image bytes acts in
     let at : slice_get old.activations i ≡ Some (seen_of k) = get-map seen_of acts i k lt ∙ ap (λ (z : Kept). Some (seen_of z)) (sym is) in
     let few : i < length old.activations = subst (λ n. i < n) (sym (length-map acts seen_of)) lt in
-    let same : with_one i (seen_of after) old ≡ seen_session set opt image bytes (slice_set acts i after) = ap (λ (l : List Active). record old { activations = l }) (sym (map-set seen_of acts i after)) in
+    let same : with_one i (seen_of after) old ≡ seen_session set o image bytes (slice_set acts i after) = ap (λ (l : List Active). record old { activations = l }) (sym (map-set seen_of acts i after)) in
     let all : Stepped i old (with_one i (seen_of after) old) after.stands = record {
       event = steps_once old i (seen_of k) (seen_of after) at makes;
       now = is_now old i (seen_of after) few;
       others = others_stay old i (seen_of after);
       made = makes_instruction old i (seen_of k) (seen_of after) few at (subst (λ (y : Now). MakesOne k.machine.instructions after.machine.instructions y) (sym stands) one);
       given = given_stays old i (seen_of k) (seen_of after) few at given;
-      ended = λ p pa other. same ∙ ap (λ (l : List Kept). seen_session set opt image bytes l) (ap (slice_set acts i) (ended (λ g. other (ap (λ (z : Active). z.now) (some_same p (seen_of k) (sym pa ∙ at)) ∙ g))) ∙ set-same acts i k lt is);
+      ended = λ p pa other. same ∙ ap (λ (l : List Kept). seen_session set o image bytes l) (ap (slice_set acts i) (ended (λ g. other (ap (λ (z : Active). z.now) (some_same p (seen_of k) (sym pa ∙ at)) ∙ g))) ∙ set-same acts i k lt is);
     } in
-    subst (λ (y : Now). Stepped i old (seen_session set opt image bytes (slice_set acts i after)) y) stands (subst (λ (z : Sessioned). Stepped i old z after.stands) same all)
+    subst (λ (y : Now). Stepped i old (seen_session set o image bytes (slice_set acts i after)) y) stands (subst (λ (z : Sessioned). Stepped i old z after.stands) same all)
 
 pub counted : (old : Sessioned) (n : ℕ) (acts : List Kept) (i : ℕ) (k : Kept) → old.activations ≡ map seen_of acts → MayMake i n old → i < length acts → k ≡ slice_index_or acts i k → k.machine.instructions + n ≤ 2 ^ 63
 counted old n acts i k are may lt is =

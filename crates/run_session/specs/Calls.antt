@@ -26,7 +26,7 @@ pub data Events (h : Host) (im : Printed) (i : ℕ) : ℕ → Session → Sessio
 -- all but one activation, the set, the pieces and the image are as before
 pub record OthersStay (i : ℕ) (old new : Sessioned) : Type 0 where
   pub set : new.set ≡ old.set
-  pub opt : new.opt ≡ old.opt
+  pub optimised : new.optimised ≡ old.optimised
   pub image : new.image ≡ old.image
   pub arena_bytes : new.arena_bytes ≡ old.arena_bytes
   pub count : length new.activations ≡ length old.activations
@@ -140,7 +140,7 @@ pub record IsStart (trace : ℕ) (inputs : List Value) (answers : List Answer) (
   pub few : i < 16
   pub answers_few : length answers ≤ 4096
   pub set : new.set ≡ old.set
-  pub opt : new.opt ≡ old.opt
+  pub optimised : new.optimised ≡ old.optimised
   pub image : new.image ≡ old.image
   pub arena_bytes : new.arena_bytes ≡ old.arena_bytes
   pub count : length new.activations ≡ length old.activations + 1

@@ -3,7 +3,6 @@ use Rattle.std.specs.Prelude.{◌≡◌, ℕ, ◌-◌, ◌*◌, List, [], Option
 use Rattle.std.specs.List.{Contains, AllZip}
 use Rattle.trace_ops.specs.declared.trace.TraceSet.{TraceSet}
 use Rattle.trace_ops.specs.declared.table.Table.{Table}
-use Rattle.trace_ops.specs.declared.piece.OptTrace.{OptTrace}
 use Rattle.trace_meaning.specs.declared.value.Value.{Value}
 use Rattle.trace_meaning.specs.declared.value.Store.{Store}
 use Rattle.trace_meaning.specs.declared.call.Answer.{Answer}
@@ -15,6 +14,8 @@ use Rattle.trace_meaning.specs.Cuts.{Cuts}
 use Rattle.arena_objects.specs.ReadBack.{objects_in}
 use Rattle.arena_objects.specs.Starting.{first_words}
 use Rattle.opt_meaning.specs.Pieces.{all_pieces, preamble}
+use Rattle.opt_set.specs.Optimised.{Optimised}
+use Rattle.set_in_image.specs.Placing.{Placing}
 use Rattle.x64_machine.specs.State.{State}
 use Rattle.image_runs.specs.Printed.{Printed, code_at, rows_at, bridges_at}
 use Rattle.image_runs.specs.Session.{Host, End, Shows, Full, Waiting, Misfitting, Lost, Activation, Session}
@@ -39,17 +40,21 @@ pub record Active : Type 0 where
   pub frames : List RecFrame
   pub bytes : ℕ
 
--- and of a session
+-- and of a session: the set, the pieces of its loops and of the attached bridges, and the image in which they stand
 pub record Sessioned : Type 0 where
   pub set : TraceSet
-  pub opt : List OptTrace
+  pub optimised : Optimised
   pub image : Imaged
   pub arena_bytes : ℕ
   pub activations : List Active
 
 -- its host
 abbrev pub host_in : Sessioned → Host
-host_in s = host_of s.set (all_pieces s.opt) s.arena_bytes
+host_in s = host_of s.set (all_pieces s.optimised.traces) s.arena_bytes
+
+-- the set with its pieces and their image
+abbrev pub placed_in : Sessioned → Placing
+placed_in s = record { set = s.set; optimised = s.optimised; image = s.image }
 
 -- ---- where an activation stands
 

@@ -2,11 +2,14 @@
 
 ghost use Rattle.std.specs.Prelude.{◌≡◌, ◌%◌, ◌^◌, ◌<◌, ◌≤◌, [], length, IfOk};
 ghost use Rattle.arena_objects.specs.ReadBack.{objects_in};
-ghost use Rattle.bridge_patch.specs.Image.{CanCompile, IsImage};
+ghost use Rattle.bridge_patch.specs.Attached.{IsImageOf};
+ghost use Rattle.bridge_patch.specs.Image.{IsImage};
 ghost use Rattle.opt_meaning.specs.Pieces.{all_pieces};
 ghost use Rattle.trace_ops.specs.InRange.{IsInRange};
 ghost use Rattle.arena_world.specs.Prebuilt.{IsHostOf};
+ghost use Rattle.set_in_image.specs.Placing.{HasNoStep, IsPlaced};
 ghost use Rattle.run_session.specs.Keeping.{IsArenaSize, IsServed};
+ghost use Rattle.run_session.specs.Sessions.{placed_in};
 ghost use Rattle.run_session.specs.Calls.{IsNow, Shows, AreCounts, MayMake, StepsOnce, MakesInstruction, MakesAtMost, MakesAll, RunsUpTo, GivenStays, EndedStays, OthersStay, Started, most_made};
 
 use crate::active::Active;
@@ -17,7 +20,9 @@ use crate::starting::{Setting, fits_loop};
 use arena_world::{Host, read_store};
 use bridge_patch::Image;
 use opt_meaning::Counts;
+use opt_set::{OptimisedSet, pieces_are_sound};
 use resume_rebuild::rebuilds_what_is_meant;
+use set_in_image::PlacedSet;
 use std::alloc::{AllocError, Global};
 use std::marker::Model;
 use target_base::ArenaWords;
@@ -30,9 +35,7 @@ use x64_machine::Machine;
 #[derive(Drop)]
 pub struct Session {
     alloc: Global,
-    checked: Checked,
-    opt: Vec<OptTrace>,
-    image: Image,
+    placed: PlacedSet,
     host: Host,
     guard_places: Vec<u32>,
     arena_bytes: u64,
@@ -47,43 +50,58 @@ impl Model for Session {
 
     ghost Value = { Sessioned };
 
-    ghost view = { λ s. record { set = s.checked; opt = s.opt.items; image = s.image; arena_bytes = s.arena_bytes; activations = map seen_of s.activations.items } };
+    ghost view = { λ s. record { set = s.placed.set; optimised = s.placed.optimised; image = s.placed.image; arena_bytes = s.arena_bytes; activations = map seen_of s.activations.items } };
 
-    ghost invariant = { λ s. HoldsTogether s.checked s.opt.items s.image s.host s.guard_places.items s.arena_bytes s.activations };
+    ghost invariant = { λ s. HoldsTogether s.placed.set s.placed.optimised.traces s.placed.image s.host s.guard_places.items s.arena_bytes s.activations };
 }
 
 impl Session {
-    /// A session of a checked set and the pieces of its loops, in order, which may be compiled.
-    pub fn of_pieces(
+    /// A session of a checked set, to which no bridge is attached yet: its loops are optimised, and compiled with boxes in the
+    /// first `registers` registers for values. Its activations will have arenas of so many bytes.
+    pub fn new(
         alloc: Global,
         checked: Checked,
-        opt: Vec<OptTrace>,
         registers: u8,
         arena_bytes: u64,
     ) -> Result<Session, AllocError>
-        requires pieces { CanCompile checked opt.items registers }
+        requires least_registers { 3 ≤ registers }
+        requires most_registers { registers ≤ 12 }
         requires whole { arena_bytes % 8 ≡ 0 }
         requires least { 65536 ≤ arena_bytes }
         requires most { arena_bytes ≤ 2 ^ 24 }
         ensures set { IfOk result (λ s. s.set ≡ checked) }
-        ensures opt { IfOk result (λ s. s.opt ≡ opt.items) }
         ensures arena_bytes { IfOk result (λ s. s.arena_bytes ≡ arena_bytes) }
-        ensures image { IfOk result (λ s. IsImage checked (all_pieces opt.items) s.image) }
-        ensures short { IfOk result (λ s. length s.image.bytes < 2 ^ 30) }
         ensures none { IfOk result (λ s. s.activations ≡ []) }
+        ensures attached { IfOk result (λ s. s.optimised.attached ≡ []) }
+        ensures placed { IfOk result (λ s. IsPlaced s.set s.optimised s.image) }
+        ensures image { IfOk result (λ s. (z : IsImage s.set (all_pieces s.optimised.traces) s.image) × IsImageOf s.set z.placed s.image) }
+        ensures history { IfOk result (λ s. HasNoStep (placed_in s)) }
+        ensures registers { IfOk result (λ s. s.image.registers ≡ registers) }
+        ensures changes { IfOk result (λ s. s.image.changes ≡ []) }
+        ensures short { IfOk result (λ s. length s.image.bytes < 2 ^ 30) }
+    {
+        let optimised = OptimisedSet::new(alloc, &checked)?;
+        let placed = PlacedSet::compile(alloc, checked, optimised, registers)?;
+        Session::of_placed(alloc, placed, arena_bytes)
+    }
+
+    // A session on a set's pieces and their image, without activations.
+    fn of_placed(alloc: Global, placed: PlacedSet, arena_bytes: u64) -> Result<Session, AllocError>
+        requires size { IsArenaSize arena_bytes }
+        ensures seen { IfOk result (λ s. s ≡ record { set = placed.set; optimised = placed.optimised; image = placed.image; arena_bytes = arena_bytes; activations = [] }) }
+        ensures placed { IfOk result (λ s. IsPlaced placed.set placed.optimised placed.image) }
+        ensures short { IfOk result (λ s. length placed.image.bytes < 2 ^ 30) }
     {
         equality_decides();
         rebuilds_what_is_meant();
-        let set = checked.set();
-        let image = Image::compile(alloc, set, &opt, registers)?;
-        let host = Host::new(alloc, &set.table)?;
-        let guard_places = guard_places(alloc, image.exits())?;
+        pieces_are_sound();
+        placed.stands();
+        let host = Host::new(alloc, &placed.checked().set().table)?;
+        let guard_places = guard_places(alloc, placed.image().exits())?;
         let activations = Vec::with_capacity(alloc, 16)?;
         Ok(Session {
             alloc,
-            checked,
-            opt,
-            image,
+            placed,
             host,
             guard_places,
             arena_bytes,
@@ -94,18 +112,18 @@ impl Session {
     // What it has beside its activations.
     fn setting(&self) -> Setting<'_>
         ensures set { result.set.now ≡ self.now.set }
-        ensures opt { result.opt.now ≡ self.now.opt }
+        ensures opt { result.opt.now ≡ self.now.optimised.traces }
         ensures image { result.image.now ≡ self.now.image }
         ensures arena_bytes { result.arena_bytes ≡ self.now.arena_bytes }
         ensures host { IsHostOf self.now.set.table result.host.now }
         ensures size { IsArenaSize self.now.arena_bytes }
-        ensures served { IsServed self.now.set.table (all_pieces self.now.opt) self.now.image }
+        ensures served { IsServed self.now.set.table (all_pieces self.now.optimised.traces) self.now.image }
         ensures range { IsInRange self.now.set }
     {
         Setting {
-            set: self.checked.set(),
-            opt: &self.opt,
-            image: &self.image,
+            set: self.placed.checked().set(),
+            opt: self.placed.optimised().traces(),
+            image: self.placed.image(),
             host: &self.host,
             arena_bytes: self.arena_bytes,
         }
@@ -121,7 +139,7 @@ impl Session {
     ) -> Result<u32, StartFault>
         ensures { Started trace inputs.items answers.items self.old self.new result }
     {
-        if !fits_loop(self.checked.set(), trace, &inputs) {
+        if !fits_loop(self.placed.checked().set(), trace, &inputs) {
             return Err(StartFault::BadInput);
         }
         if self.activations.len() >= 16 {
@@ -159,9 +177,9 @@ impl Session {
         ensures ended { EndedStays a self.old self.new }
     {
         let setting = Setting {
-            set: self.checked.set(),
-            opt: &self.opt,
-            image: &self.image,
+            set: self.placed.checked().set(),
+            opt: self.placed.optimised().traces(),
+            image: self.placed.image(),
             host: &self.host,
             arena_bytes: self.arena_bytes,
         };
@@ -204,7 +222,7 @@ impl Session {
         ensures all { MakesAll a (most_made n self.old) self.old self.new result }
         ensures given { GivenStays a self.old self.new }
     {
-        let most = (u64::from(n) + 1) * u64::from(self.image.code().len());
+        let most = (u64::from(n) + 1) * u64::from(self.placed.image().code().len());
         self.steps(a, most)
     }
 
@@ -310,7 +328,7 @@ impl Session {
     {
         read_store(
             self.alloc,
-            &self.checked.set().table,
+            &self.placed.checked().set().table,
             self.activations[a as usize].machine.arena(),
         )
     }
@@ -319,20 +337,27 @@ impl Session {
     pub fn set(&self) -> &TraceSet
         ensures { result.now ≡ self.now.set }
     {
-        self.checked.set()
+        self.placed.checked().set()
     }
 
-    /// The pieces of the loops, in order.
+    /// The pieces of the loops, in order, and then of the attached bridges.
     pub fn opt(&self) -> &[OptTrace]
-        ensures { result.now ≡ self.now.opt }
+        ensures { result.now ≡ self.now.optimised.traces }
     {
-        &self.opt
+        self.placed.optimised().traces()
     }
 
     /// The image.
     pub fn image(&self) -> &Image
         ensures { result.now ≡ self.now.image }
     {
-        &self.image
+        self.placed.image()
+    }
+
+    /// The pieces are those of an optimised set, and stand in the image: the loops were compiled, and then each bridge attached.
+    pub fn stands(&self)
+        ensures { IsPlaced self.now.set self.now.optimised self.now.image }
+    {
+        self.placed.stands();
     }
 }

@@ -4,6 +4,8 @@ use Rattle.std.proofs.lemmas.List.{length-map}
 use Rattle.trace_ops.specs.declared.piece.OptTrace.{OptTrace}
 use Rattle.trace_ops.specs.declared.trace.TraceSet.{TraceSet}
 use Rattle.opt_meaning.specs.Pieces.{all_pieces}
+use Rattle.bridge_patch.specs.Image.{Imaged}
+use Rattle.opt_set.specs.Optimised.{Optimised}
 use Rattle.run_session.specs.Calls.{StepsOnce, OthersStay, MakesInstruction}
 use Rattle.run_session.specs.Keeping.{IsKept, HoldsTogether}
 use Rattle.run_session.specs.Sessions.{Active, Sessioned}
@@ -26,7 +28,8 @@ invariant_of-self c =
     let i = c.self.invariant in
     let acts = c.self.inside.activations.items in
     let after = c.advance.new.active in
-    let kept = subst (λ (s : TraceSet). IsKept s.table c.self.inside.image.pieces after) c.set.ensures.value c.advance.ensures.kept in
+    let kept0 = subst (λ (s : TraceSet). IsKept s.table c.image.result.now.pieces after) (c.set.ensures.value ∙ c.checked.ensures) c.advance.ensures.kept in
+    let kept = subst (λ (x : Imaged). IsKept c.self.inside.placed.set.table x.pieces after) c.image.ensures kept0 in
     record {
       host = i.host;
       places = i.places;
@@ -34,22 +37,24 @@ invariant_of-self c =
       size = i.size;
       few = (let same = length-set acts c.args.a after in let few = i.few in omega (arith, same, few));
       room = i.room;
-      each = all_set (IsKept c.self.inside.checked.table c.self.inside.image.pieces) acts c.args.a after i.each kept;
+      each = all_set (IsKept c.self.inside.placed.set.table c.self.inside.placed.image.pieces) acts c.args.a after i.each kept;
     }
 
 -- all that is promised
-promised : (c : goal.After-self-1) → Stepped c.args.a c.args.self.now (seen_session c.self.inside.checked c.self.inside.opt.items c.self.inside.image c.self.inside.arena_bytes (slice_set c.self.inside.activations.items c.args.a c.advance.new.active)) c.advance.result
+promised : (c : goal.After-self-1) → Stepped c.args.a c.args.self.now (seen_session c.self.inside.placed.set c.self.inside.placed.optimised c.self.inside.placed.image c.self.inside.arena_bytes (slice_set c.self.inside.activations.items c.args.a c.advance.new.active)) c.advance.result
 promised c =
     let acts = c.self.inside.activations.items in
     let are = ap (λ (s : Sessioned). s.activations) c.self.view_is in
     let lt = subst (λ n. c.args.a < n) (length-map acts seen_of) (subst (λ (l : List Active). c.args.a < length l) (sym are) c.requires.started) in
     let k = c.index_mut.result.now in
     let after = c.advance.new.active in
-    let image = c.self.inside.image in
-    let one = subst (λ (s : TraceSet). MakesEvent s (all_pieces c.deref.result.now) image.bytes image.exits (seen_of k) (seen_of after)) c.set.ensures.value c.advance.ensures.event in
-    let two = subst (λ (o : List OptTrace). MakesEvent c.self.inside.checked (all_pieces o) image.bytes image.exits (seen_of k) (seen_of after)) c.deref.ensures.value one in
-    let all = stepped c.self.inside.checked c.self.inside.opt.items image c.self.inside.arena_bytes acts c.args.a k after c.advance.result lt c.index_mut.ensures.value two c.advance.ensures.made c.advance.ensures.given c.advance.ensures.ended c.advance.ensures.now in
-    subst (λ (s : Sessioned). Stepped c.args.a s (seen_session c.self.inside.checked c.self.inside.opt.items image c.self.inside.arena_bytes (slice_set acts c.args.a after)) c.advance.result) c.self.view_is all
+    let image = c.self.inside.placed.image in
+    let x = c.image.result.now in
+    let zero = subst (λ (s : TraceSet). MakesEvent s (all_pieces c.traces.result.now) x.bytes x.exits (seen_of k) (seen_of after)) (c.set.ensures.value ∙ c.checked.ensures) c.advance.ensures.event in
+    let one = subst (λ (i : Imaged). MakesEvent c.self.inside.placed.set (all_pieces c.traces.result.now) i.bytes i.exits (seen_of k) (seen_of after)) c.image.ensures zero in
+    let two = subst (λ (o : List OptTrace). MakesEvent c.self.inside.placed.set (all_pieces o) image.bytes image.exits (seen_of k) (seen_of after)) (c.traces.ensures ∙ ap (λ (o : Optimised). o.traces) c.optimised.ensures) one in
+    let all = stepped c.self.inside.placed.set c.self.inside.placed.optimised image c.self.inside.arena_bytes acts c.args.a k after c.advance.result lt c.index_mut.ensures.value two c.advance.ensures.made c.advance.ensures.given c.advance.ensures.ended c.advance.ensures.now in
+    subst (λ (s : Sessioned). Stepped c.args.a s (seen_session c.self.inside.placed.set c.self.inside.placed.optimised image c.self.inside.arena_bytes (slice_set acts c.args.a after)) c.advance.result) c.self.view_is all
 
 pub returns-clause-event : goal.returns-clause-event
 returns-clause-event c = (promised c).event

@@ -12,7 +12,7 @@ use Rattle.run_session.proofs.session.Session.store.Goals as goal
 pub returns : goal.returns
 returns c =
     let k = c.index.result.now in
-    let set = c.set.ensures.value ∙ ap (λ (s : Sessioned). s.set) c.self.view_is in (
+    let set = c.set.ensures.value ∙ c.checked.ensures ∙ ap (λ (s : Sessioned). s.set) c.self.view_is in (
       seen_of k,
       shown_at c.args.self.now c.self.inside.activations.items c.args.a k (ap (λ (s : Sessioned). s.activations) c.self.view_is) c.requires c.index.ensures,
       if_ok (λ (s : Store). s.objects ≡ objects_in c.set.result.now.table c.arena.result.now) (λ (s : Store). s.objects ≡ objects_in c.args.self.now.set.table k.machine.arena) c.read_store.result c.read_store.ensures.objects

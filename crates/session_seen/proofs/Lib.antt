@@ -1,3 +1,4 @@
 pub mod Telling
 pub mod Moves
 pub mod Lining
+pub mod Ran

@@ -38,7 +38,7 @@ starts_so : (names : List (List ℕ)) (a trace number : ℕ) (inputs : List Valu
     → a ≡ length old.activations → IsLineStart old.set trace inputs answers → IsStart trace inputs answers old new number → after ≡ before ++ started_text (name_of names a)
     → PutsLine names (line.Start a trace inputs answers) old new before after
 starts_so names a trace number inputs answers old new before after numbered fits start put = record {
-  whole = record { set = start.set; opt = start.opt; image = start.image; arena_bytes = start.arena_bytes };
+  whole = record { set = start.set; optimised = start.optimised; image = start.image; arena_bytes = start.arena_bytes };
   starts = start.count;
   made = made;
   writes = writes;
@@ -115,11 +115,11 @@ goes_first names old before all fresh fits few none = record {
 }
 
 whole_then : (a b c : Sessioned) → IsSameWhole a b → IsSameWhole b c → IsSameWhole a c
-whole_then a b c x y = record { set = y.set ∙ x.set; opt = y.opt ∙ x.opt; image = y.image ∙ x.image; arena_bytes = y.arena_bytes ∙ x.arena_bytes }
+whole_then a b c x y = record { set = y.set ∙ x.set; optimised = y.optimised ∙ x.optimised; image = y.image ∙ x.image; arena_bytes = y.arena_bytes ∙ x.arena_bytes }
 
 same_host : (a b : Sessioned) → IsSameWhole a b → host_in b ≡ host_in a
 same_host a b x =
-    ap (λ s. host_of s (all_pieces b.opt) b.arena_bytes) x.set ∙ ap (λ o. host_of a.set (all_pieces o) b.arena_bytes) x.opt ∙ ap (λ n. host_of a.set (all_pieces a.opt) n) x.arena_bytes
+    ap (λ s. host_of s (all_pieces b.optimised.traces) b.arena_bytes) x.set ∙ ap (λ o. host_of a.set (all_pieces o.traces) b.arena_bytes) x.optimised ∙ ap (λ n. host_of a.set (all_pieces a.optimised.traces) n) x.arena_bytes
 
 -- one line more
 lines_then : (names : List (List ℕ)) (l : Line) (ls : List Line) (now next last : Sessioned) (before mid final : List ℕ) → IsSameWhole now next → WritesLine names l now next before mid → WritesLines names ls next last mid final → WritesLines names (l ∷ ls) now last before final

@@ -98,10 +98,10 @@ told_now i s n h = (h.0, h.1, sym h.2)
 -- ---- moves
 
 pub same_whole : (s : Sessioned) → IsSameWhole s s
-same_whole s = record { set = refl; opt = refl; image = refl; arena_bytes = refl }
+same_whole s = record { set = refl; optimised = refl; image = refl; arena_bytes = refl }
 
 others_whole : (i : ℕ) (old new : Sessioned) → OthersStay i old new → IsSameWhole old new
-others_whole i old new h = record { set = h.set; opt = h.opt; image = h.image; arena_bytes = h.arena_bytes }
+others_whole i old new h = record { set = h.set; optimised = h.optimised; image = h.image; arena_bytes = h.arena_bytes }
 
 pub rests : (names : List (List ℕ)) (a most : ℕ) (s : Sessioned) (n : Now) (before after : List ℕ) → IsNow a s n → n ≢ now.Going → after ≡ before ++ ended_text (name_of names a) → PutsMoves names a most s s before after
 rests names a most s n before after is other put = record {

@@ -60,7 +60,7 @@ HasEntries set im = (p : ℕ) (t : Trace) → slice_get set.traces p ≡ Some t 
 -- the set, the pieces and the image are as before
 pub record IsSameWhole (old new : Sessioned) : Type 0 where
   pub set : new.set ≡ old.set
-  pub opt : new.opt ≡ old.opt
+  pub optimised : new.optimised ≡ old.optimised
   pub image : new.image ≡ old.image
   pub arena_bytes : new.arena_bytes ≡ old.arena_bytes
 

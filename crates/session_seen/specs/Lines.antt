@@ -11,7 +11,7 @@ use Rattle.x64_machine.specs.State.{State}
 use Rattle.session_text.specs.declared.session.Line.{Line}
 use Rattle.session_text.specs.declared.session.Line.TheVariants as line
 use Rattle.image_runs.specs.Printed.{Part, Printed, code_at, rows_at, bridges_at}
-use Rattle.image_runs.specs.Session.{Host, Activation, Session, Event, first, with_cut}
+use Rattle.image_runs.specs.Session.{Host, Activation, Session, SessionRun, Event, first, with_cut}
 use Rattle.seen_text.specs.declared.lines.Judged.TheVariants.{Accepted, Already, NoParent}
 use Rattle.seen_text.specs.Lines.{started_text, ended_text, attach_text}
 use Rattle.run_session.specs.Calls.{Events, HasEnded}
@@ -77,3 +77,8 @@ abbrev pub AreLines : Host → TraceSet → Printed → List (List ℕ) → List
 AreLines h set im names [] s t text = (t ≡ s) × (text ≡ [])
 AreLines h set im names (l ∷ ls) s t text =
     (u : Session) × (first behind : List ℕ) × IsLine h set im names l s u first × AreLines h set im names ls u t behind × (text ≡ first ++ behind)
+
+-- lines are a run of the session
+abbrev pub LinesAreARun : Type 0
+LinesAreARun =
+    (h : Host) (set : TraceSet) (im : Printed) (names : List (List ℕ)) (ls : List Line) (s t : Session) (text : List ℕ) → AreLines h set im names ls s t text → SessionRun h im s t

@@ -11,4 +11,3 @@ pub mod Shows
 pub mod CallsMatch
 pub mod BytesMatch
 pub mod WordRuns
-mod Straight

@@ -13,5 +13,3 @@ pub mod Worded
 pub mod Laws
 pub mod Showing
 pub mod Standing
-pub mod StraightBoxes
-pub mod StraightStep

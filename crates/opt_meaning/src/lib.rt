@@ -9,7 +9,6 @@ mod places;
 mod rebuilding;
 mod run;
 mod steps;
-mod straight_laws;
 
 pub use costs::Counts;
 pub use laws::{
@@ -18,4 +17,3 @@ pub use laws::{
     plain_entries_admit_one_state, starts_are_paired,
 };
 pub use run::OptRun;
-pub use straight_laws::straight_pieces_finish;

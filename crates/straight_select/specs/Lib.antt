@@ -1,8 +1,0 @@
-pub mod ExitCodes
-pub mod Slots
-pub mod Valued
-pub mod Chosen
-pub mod Reached
-pub mod Exited
-pub mod Given
-pub mod Laid
